@@ -78,16 +78,20 @@ fn items_of(alloc: Global, text: &str) -> Result<Vec<PushItem>, AllocError> {
     Ok(items)
 }
 
-// The start of a push of the items.
+// The start of a push of the items, which may be atomic.
 fn push(
     out: &mut String,
     alloc: Global,
     node: &mut CloneNode<Device>,
+    atomic: bool,
     text: &str,
 ) -> Result<(), AllocError> {
     let items = items_of(alloc, text)?;
     if items.is_empty() {
         return out.push_str("no items");
+    }
+    if atomic {
+        return push_started(out, &node.start_push_atomic(&items));
     }
     push_started(out, &node.start_push(&items))
 }
@@ -138,7 +142,8 @@ pub fn call(
         "commit" => commit(out, node, text),
         "branch" => branch(out, alloc, node, text),
         "fetch" => push_started(out, &node.start_fetch()),
-        "push" => push(out, alloc, node, text),
+        "push" => push(out, alloc, node, false, text),
+        "push-atomic" => push(out, alloc, node, true, text),
         "receive" => receive(out, alloc, node, text),
         "from" => arriving::take_from(out, alloc, node, text),
         "next" => arriving::take_first(out, alloc, node, text),

@@ -149,17 +149,21 @@ pub fn items_of(alloc: Global, text: &str) -> Result<Vec<PushItem>, AllocError> 
     Ok(items)
 }
 
-// The start of a push of the items.
+// The start of a push of the items, which may be atomic.
 fn push(
     out: &mut String,
     alloc: Global,
     node: &mut CloneNode<Device>,
     sent: &mut Vec<Vec<u8>>,
+    atomic: bool,
     text: &str,
 ) -> Result<(), AllocError> {
     let items = items_of(alloc, text)?;
     if items.is_empty() {
         return out.push_str("no items");
+    }
+    if atomic {
+        return push_started(out, sent, node.start_push_atomic(&items));
     }
     push_started(out, sent, node.start_push(&items))
 }
@@ -218,7 +222,8 @@ fn call(
         "branch" => branch(out, alloc, node, text),
         "delete" => delete(out, alloc, node, text),
         "fetch" => push_started(out, sent, node.start_fetch()),
-        "push" => push(out, alloc, node, sent, text),
+        "push" => push(out, alloc, node, sent, false, text),
+        "push-atomic" => push(out, alloc, node, sent, true, text),
         "take" => take(out, alloc, node, sent, text),
         "from" => arriving::take_from(out, alloc, sent, node, text),
         "next" => arriving::take_first(out, alloc, sent, node, text),

@@ -11,7 +11,7 @@ use vc_node::CloneNode;
 use vc_push::{Report, Told};
 use vc_sending::PushItem;
 use vc_shared::{Shared, SharedFault};
-use vc_world::{ExchangeEnd, Fetched, exchange_fetch, exchange_push};
+use vc_world::{ExchangeEnd, Fetched, exchange_fetch, exchange_push, exchange_push_atomic};
 
 // Writes why an exchange came to no end of its own.
 fn push_end(out: &mut String, end: &ExchangeEnd<SharedFault>) -> Result<(), AllocError> {
@@ -90,10 +90,11 @@ fn push_pushed(
     }
 }
 
-// A whole push of the items.
+// A whole push of the items, which may be atomic.
 fn push_at_once(
     out: &mut String,
     alloc: Global,
+    atomic: bool,
     shared: &mut Shared<Device>,
     clone: &mut CloneNode<Device>,
     items: &[PushItem],
@@ -101,10 +102,13 @@ fn push_at_once(
     if items.is_empty() {
         return out.push_str("no items");
     }
+    if atomic {
+        return push_pushed(out, &exchange_push_atomic(alloc, shared, clone, items));
+    }
     push_pushed(out, &exchange_push(alloc, shared, clone, items))
 }
 
-// The same, of which the answer comes in this way.
+// A whole push, of which the answer comes in this way.
 fn push(
     out: &mut String,
     alloc: Global,
@@ -137,7 +141,8 @@ fn exchange(
         "fetch" => push_fetched(out, &exchange_fetch(shared, clone)),
         "fetch-read" => fetch(out, alloc, Coming::Read, shared, clone),
         "fetch-from" => fetch(out, alloc, Coming::Unread, shared, clone),
-        "push" => push_at_once(out, alloc, shared, clone, items),
+        "push" => push_at_once(out, alloc, false, shared, clone, items),
+        "push-atomic" => push_at_once(out, alloc, true, shared, clone, items),
         "push-read" => push(out, alloc, Coming::Read, shared, clone, items),
         _ => push(out, alloc, Coming::Unread, shared, clone, items),
     }

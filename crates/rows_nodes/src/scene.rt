@@ -57,9 +57,13 @@ impl Scene {
         let alloc = self.alloc;
         match verb {
             "world" => self.world(out),
-            "fetch" | "push" | "fetch-read" | "push-read" | "fetch-from" | "push-from" => {
-                self.exchange(out, verb, text)
-            }
+            "fetch"
+            | "push"
+            | "push-atomic"
+            | "fetch-read"
+            | "push-read"
+            | "fetch-from"
+            | "push-from" => { self.exchange(out, verb, text) }
             "c0" => clones::row(out, alloc, &mut self.first, &mut self.sent, text),
             "c1" => clones::row(out, alloc, &mut self.second, &mut self.sent, text),
             _ => shared::row(out, alloc, &mut self.shared, &mut self.sent, verb, text),

@@ -45,6 +45,11 @@ fn push_stepped(
         Ok(Stepped::Checked(passed)) => write!(out, "checked {passed}"),
         Ok(Stepped::Migrated) => out.push_str("migrated"),
         Ok(Stepped::Updated(name, found)) => push_update(out, &name, &found),
+        Ok(Stepped::Atomic(refs)) => write!(out, "atomic ok {refs}"),
+        Ok(Stepped::AtomicRefused(name, reason)) => {
+            write!(out, "atomic {} ", reason.number())?;
+            push_bytes(out, &name)
+        }
         Ok(Stepped::Finished(bytes)) => push_sent(out, sent, "report ", bytes),
         Err(fault) => write!(out, "{fault}"),
     }

@@ -48,45 +48,45 @@ fetch_faulted old new waits after was_up is_up told is files same was up =
     (record { each = λ awaited n waited held. fault_leads (Command StartFetch) old waits awaited n waited held (λ never. cc never) Memory }))
 
 -- ---- a push
-abbrev a_push : List PushItem → CloneCall
-a_push items = Command (StartPush false (machine_items items))
+abbrev a_push : Bool → List PushItem → CloneCall
+a_push atomic items = Command (StartPush atomic (machine_items items))
 
-module _ (content : FileMap) (items : List PushItem) (waits : AwaitedText) (awaited : Awaited) (n : CloneNode) (waited : IsAwaited waits awaited) (held : HoldsNode content true awaited n) where
+module _ (content : FileMap) (atomic : Bool) (items : List PushItem) (waits : AwaitedText) (awaited : Awaited) (n : CloneNode) (waited : IsAwaited waits awaited) (held : HoldsNode content true awaited n) where
   -- what is awaited stays awaited
-  pushed : (bytes : List ℕ) → IsSentPush n.repository (machine_items items) bytes → Leads n (a_push items) content waits true (SendsBytes bytes)
+  pushed : (bytes : List ℕ) → IsSentPush n.repository atomic (machine_items items) bytes → Leads n (a_push atomic items) content waits true (SendsBytes bytes)
   pushed bytes is =
-      sent_leads (a_push items) content waits awaited n waited held waits awaited waited (Push false None is.commands is.objects) bytes is.written
+      sent_leads (a_push atomic items) content waits awaited n waited held waits awaited waited (Push atomic None is.commands is.objects) bytes is.written
       (λ sound. (is.few, is.complete, (is.commands, is.objects, is.commands_are, is.objects_are, refl)))
 
   -- over clean files a push is refused for what it asks alone, but for a fault
   unpushed : (fault : SendFault) → IsRefusedPush content items fault → DeclinesPush content items fault
-      → Leads n (a_push items) content waits (up_after {T = Vec ℕ Global} (Err (of_send fault))) (Quietly (fault_answer (of_send fault)))
-  unpushed send.TooMany why declines = refused_leads (a_push items) content waits awaited n waited held 84 (λ sound. declines n.repository (held_content content n.repository held.shows.spells))
-  unpushed (send.Missing id) why declines = refused_leads (a_push items) content waits awaited n waited held 40 (λ sound. declines n.repository (held_content content n.repository held.shows.spells))
+      → Leads n (a_push atomic items) content waits (up_after {T = Vec ℕ Global} (Err (of_send fault))) (Quietly (fault_answer (of_send fault)))
+  unpushed send.TooMany why declines = refused_leads (a_push atomic items) content waits awaited n waited held 84 (λ sound. declines n.repository (held_content content n.repository held.shows.spells))
+  unpushed (send.Missing id) why declines = refused_leads (a_push atomic items) content waits awaited n waited held 40 (λ sound. declines n.repository (held_content content n.repository held.shows.spells))
   unpushed (send.Refs (refs.Stale current)) why declines = absurd why
   unpushed (send.Refs (refs.Conflict name)) why declines = absurd why
   unpushed (send.Refs (refs.BadRefFile path)) why declines = absurd (held.clean.refs (string_bytes path) why)
   unpushed (send.Refs refs.HeadLoop) why declines = absurd why
-  unpushed (send.Refs (refs.Fault f)) why declines = fault_leads (a_push items) content waits awaited n waited held (λ never. cc never) Memory
+  unpushed (send.Refs (refs.Fault f)) why declines = fault_leads (a_push atomic items) content waits awaited n waited held (λ never. cc never) Memory
   unpushed (send.Graph (graph.Missing id)) why declines =
-      refused_leads (a_push items) content waits awaited n waited held 40 (λ sound. absurd (declines n.repository (held_content content n.repository held.shows.spells) sound))
+      refused_leads (a_push atomic items) content waits awaited n waited held 40 (λ sound. absurd (declines n.repository (held_content content n.repository held.shows.spells) sound))
   unpushed (send.Graph (graph.Store (store.BadObject e))) why declines = absurd why
   unpushed (send.Graph (graph.Store (store.Absent id))) why declines = absurd why
   unpushed (send.Graph (graph.Store (store.Damaged id))) (met, damaged) declines = absurd (held.clean.objects id damaged)
   unpushed (send.Graph (graph.Store (store.Fault e))) why declines = absurd why
-  unpushed (send.Fault f) why declines = fault_leads (a_push items) content waits awaited n waited held (λ never. cc never) f
+  unpushed (send.Fault f) why declines = fault_leads (a_push atomic items) content waits awaited n waited held (λ never. cc never) f
 
-module _ (items : List PushItem) (old new : FileMap) (waits after : AwaitedText) (was_up is_up : Bool) (files : new ≡ old) (same : after ≡ waits) (was : was_up ≡ true) where
-  pub push_sent : (bytes : Vec ℕ Global) → SendsPush old items bytes.items → is_up ≡ true → ¬ IsItemId (machine_items items) zero_id
-      → AnswersClone (Command (StartPush false (machine_items items))) (SentAs (Ok bytes)) old new waits after was_up is_up
+module _ (atomic : Bool) (items : List PushItem) (old new : FileMap) (waits after : AwaitedText) (was_up is_up : Bool) (files : new ≡ old) (same : after ≡ waits) (was : was_up ≡ true) where
+  pub push_sent : (bytes : Vec ℕ Global) → SendsPush old atomic items bytes.items → is_up ≡ true → ¬ IsItemId (machine_items items) zero_id
+      → AnswersClone (Command (StartPush atomic (machine_items items))) (SentAs (Ok bytes)) old new waits after was_up is_up
   push_sent bytes sends up zero =
-      as_told (a_push items) (SendsBytes bytes.items) old old new waits waits after was_up is_up true true files same was up
-      (record { each = λ awaited n waited held. pushed old items waits awaited n waited held bytes.items (sends n.repository (held_content old n.repository held.shows.spells) zero) })
+      as_told (a_push atomic items) (SendsBytes bytes.items) old old new waits waits after was_up is_up true true files same was up
+      (record { each = λ awaited n waited held. pushed old atomic items waits awaited n waited held bytes.items (sends n.repository (held_content old n.repository held.shows.spells) zero) })
 
   pub push_declined : (fault : SendFault) (told : CloneFault) → IsRefusedPush old items fault → DeclinesPush old items fault → told ≡ of_send fault → is_up ≡ up_after {T = Vec ℕ Global} (Err told)
-      → AnswersClone (Command (StartPush false (machine_items items))) (SentAs (Err told)) old new waits after was_up is_up
+      → AnswersClone (Command (StartPush atomic (machine_items items))) (SentAs (Err told)) old new waits after was_up is_up
   push_declined fault told why declines is up =
-      subst (λ (e : CloneFault). AnswersClone (a_push items) (Quietly (fault_answer e)) old new waits after was_up is_up) (sym is)
-      (as_told (a_push items) (Quietly (fault_answer (of_send fault))) old old new waits waits after was_up is_up true (up_after {T = Vec ℕ Global} (Err (of_send fault))) files same was
+      subst (λ (e : CloneFault). AnswersClone (a_push atomic items) (Quietly (fault_answer e)) old new waits after was_up is_up) (sym is)
+      (as_told (a_push atomic items) (Quietly (fault_answer (of_send fault))) old old new waits waits after was_up is_up true (up_after {T = Vec ℕ Global} (Err (of_send fault))) files same was
       (up ∙ ap (λ (e : CloneFault). up_after {T = Vec ℕ Global} (Err e)) is)
-      (record { each = λ awaited n waited held. unpushed old items waits awaited n waited held fault why declines }))
+      (record { each = λ awaited n waited held. unpushed old atomic items waits awaited n waited held fault why declines }))

@@ -1,5 +1,5 @@
 // A message that a reader brings to a clone, whose objects go into the quarantine as they come.
-ghost use Rattle.std.specs.Prelude.{◌≡◌, ◌<◌, Err, IfErr, IfOk, IsErrOf, OnOk, false, true};
+ghost use Rattle.std.specs.Prelude.{◌≡◌, ◌<◌, Err, IfErr, IfOk, IsErrOf, OnOk, true};
 ghost use Rattle.vc_exchange.specs.Quarantined.{KeepsOthers};
 ghost use Rattle.vc_tracking.specs.Storing.{KeepsGood};
 ghost use Rattle.vc_files.specs.FileMap.{SameOutside};

@@ -492,6 +492,34 @@ impl<F: Files> CloneNode<F> {
         }
     }
 
+    // The message that asks the shared node to change refs, all of them or none if it is atomic.
+    fn send_push(&mut self, atomic: bool, items: &[PushItem]) -> Result<Vec<u8>, CloneFault>
+        requires some { items.now ≢ [] }
+        ensures answers { F.honest → PushesNoZero items.now → AnswersCall F.content (Command (StartPush atomic (machine_items items.now))) (SentAs result) self.old self.new }
+        ensures bad_file { F.honest → IfErr result (λ e. (e ≡ CloneFault.Node NodeFault.Down) ⊎ IsRefusedStart (F.content self.old.files) items.now e) }
+        ensures settles { Settles (result ≡ Err (CloneFault.Node NodeFault.Down)) (clone_up_after result) self.old self.new }
+        ensures same { F.content self.new.files ≡ F.content self.old.files }
+        ensures wear { Wears F.failed F.can_fail F.left self.old.files self.new.files (CloneTellsDevice result) }
+    {
+        if !self.is_up {
+            return Err(CloneFault::Node(NodeFault::Down));
+        }
+        self.index = None;
+        match push_message(
+            self.alloc,
+            &mut self.files,
+            &mut self.reached,
+            atomic,
+            items,
+        ) {
+            Ok(bytes) => Ok(bytes),
+            Err(fault) => {
+                let fault = CloneFault::from(fault);
+                Err(self.fail_exchange(fault))
+            }
+        }
+    }
+
     /// The message that asks the shared node to change refs: see [`push_message`](vc_sending::push_message). There is at least one
     /// item. More than 256 are refused (84), and then the first id of which not all is there (40). What is awaited stays awaited.
     pub fn start_push(&mut self, items: &[PushItem]) -> Result<Vec<u8>, CloneFault>
@@ -502,17 +530,19 @@ impl<F: Files> CloneNode<F> {
         ensures same { F.content self.new.files ≡ F.content self.old.files }
         ensures wear { Wears F.failed F.can_fail F.left self.old.files self.new.files (CloneTellsDevice result) }
     {
-        if !self.is_up {
-            return Err(CloneFault::Node(NodeFault::Down));
-        }
-        self.index = None;
-        match push_message(self.alloc, &mut self.files, &mut self.reached, items) {
-            Ok(bytes) => Ok(bytes),
-            Err(fault) => {
-                let fault = CloneFault::from(fault);
-                Err(self.fail_exchange(fault))
-            }
-        }
+        self.send_push(false, items)
+    }
+
+    /// The message of an atomic push: all its refs are to be set, or none. In all else it is as [`start_push`](CloneNode::start_push).
+    pub fn start_push_atomic(&mut self, items: &[PushItem]) -> Result<Vec<u8>, CloneFault>
+        requires some { items.now ≢ [] }
+        ensures answers { F.honest → PushesNoZero items.now → AnswersCall F.content (Command (StartPush true (machine_items items.now))) (SentAs result) self.old self.new }
+        ensures bad_file { F.honest → IfErr result (λ e. (e ≡ CloneFault.Node NodeFault.Down) ⊎ IsRefusedStart (F.content self.old.files) items.now e) }
+        ensures settles { Settles (result ≡ Err (CloneFault.Node NodeFault.Down)) (clone_up_after result) self.old self.new }
+        ensures same { F.content self.new.files ≡ F.content self.old.files }
+        ensures wear { Wears F.failed F.can_fail F.left self.old.files self.new.files (CloneTellsDevice result) }
+    {
+        self.send_push(true, items)
     }
 
     /// Takes the message from the shared node that is all of the bytes: its refs and a pack where they are awaited, and the report on

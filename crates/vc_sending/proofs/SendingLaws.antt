@@ -126,7 +126,7 @@ legal_name name legal = record {
   plain = no_break name (legal rules.BadByte);
 }
 
-short_name : (name : List ℕ) → IsRefName name → length name ≤ 65416
+short_name : (name : List ℕ) → IsRefName name → length name ≤ 65409
 short_name name legal = let few = ltb-false 255 (length name) (legal rules.TooLong) in omega (arith, few)
 
 pub short_commands : (commands : List Command) → All (λ c. IsRefName c.name.items) commands → All (λ c. IsShort (command_of c)) commands
@@ -250,11 +250,11 @@ positive : {X : Type 0} (xs : List X) → xs ≢ [] → 0 < length xs
 positive [] some = absurd (some refl)
 positive (x ∷ xs) some = omega arith
 
-module _ (content : FileMap) (items : List PushItem) (set : List StoredObject) (some : items ≢ []) (few : length items ≤ 256)
+module _ (content : FileMap) (atomic : Bool) (items : List PushItem) (set : List StoredObject) (some : items ≢ []) (few : length items ≤ 256)
     (complete : IsClosedUnder (links_in (objects content)) (item_ids items)) (sorted : IsSortedByName (map stored_name set)) (sent : AreSent content (item_ids items) set)
     (legal : AllByRecursion (λ (c : CommandText). IsRefName c.name) (map (command_for content) items)) where
   abbrev push_of : PushText
-  push_of = record { commands = map (command_for content) items; carried = Ok set }
+  push_of = record { atomic = atomic; commands = map (command_for content) items; carried = Ok set }
 
   given_id : (id : ObjectId) → Contains (item_ids items) id → IsId id
   given_id id h = object_id content id (there_from_links (objects content) id (complete id (record { root = id; is_root = h; reaches = itself })))
@@ -283,7 +283,7 @@ module _ (content : FileMap) (items : List PushItem) (set : List StoredObject) (
   brought_is : (x : Id) → option_map stored_of (get brought x) ≡ object_named (id_of_bytes x) set
   brought_is x = are_brought x ∙ sym (all_in set (id_of_bytes x) (grammar content (item_ids items) set sorted sent))
 
-  machine_push : IsPush (Push false None (map machine_command push_of.commands) brought) push_of
+  machine_push : IsPush (Push atomic None (map machine_command push_of.commands) brought) push_of
   machine_push = record { refusal = None; objects = brought; is = refl; refused = refl; brought = are_brought }
 
   module _ (r : Repository) (held : HoldsContent content r) where
@@ -333,7 +333,7 @@ module _ (content : FileMap) (items : List PushItem) (set : List StoredObject) (
           (brought_is x ∙ (sent (id_of_bytes x) (stored_of o)).1 ((reached_to x wanted, λ known. lacked (known_from content r held x known)), held.objects_are x ∙ ap (option_map stored_of) there));
     }
 
-    sent_push : (bytes : List ℕ) → bytes ≡ flat_map spelling (push_lines push_of) → ¬ IsItemId (machine_items items) model.zero_id → IsSentPush r (machine_items items) bytes
+    sent_push : (bytes : List ℕ) → bytes ≡ flat_map spelling (push_lines push_of) → ¬ IsItemId (machine_items items) model.zero_id → IsSentPush r atomic (machine_items items) bytes
     sent_push bytes spelled none = record {
       commands = map machine_command push_of.commands;
       objects = brought;
@@ -341,22 +341,24 @@ module _ (content : FileMap) (items : List PushItem) (set : List StoredObject) (
       complete = λ x given. closed_from (objects content) (stored r.objects) held.objects_are x (λ y reaches. complete y (record { root = id_of_bytes x; is_root = item_given items x given; reaches = reaches }));
       commands_are = commands_are items;
       objects_are = difference;
-      written = written_so (Push false None (map machine_command push_of.commands) brought) (a_push push_of) bytes machine_push (written_push (λ h. none (given_item items zero_id h))) spelled;
+      written = written_so (Push atomic None (map machine_command push_of.commands) brought) (a_push push_of) bytes machine_push (written_push (λ h. none (given_item items zero_id h))) spelled;
     }
 
-sends_push : (content : FileMap) (items : List PushItem) (push : PushText) (bytes : List ℕ) → items ≢ [] → length items ≤ 256 → IsPushOf content items push
-    → AllByRecursion (λ (c : CommandText). IsRefName c.name) push.commands → bytes ≡ flat_map spelling (push_lines push) → SendsPush content items bytes
-sends_push content items push bytes some few is legal spelled r held =
+sends_push : (content : FileMap) (atomic : Bool) (items : List PushItem) (push : PushText) (bytes : List ℕ) → items ≢ [] → length items ≤ 256 → IsPushOf content items push → push.atomic ≡ atomic
+    → AllByRecursion (λ (c : CommandText). IsRefName c.name) push.commands → bytes ≡ flat_map spelling (push_lines push) → SendsPush content atomic items bytes
+sends_push content atomic items push bytes some few is asks legal spelled r held =
     let names = subst (AllByRecursion (λ (c : CommandText). IsRefName c.name)) is.commands legal in
-    let commands : push ≡ record { commands = map (command_for content) items; carried = push.carried } = ap (λ cs. record { commands = cs; carried = push.carried }) is.commands in
-    let carries : ◌≡◌ {A = PushText} (record { commands = map (command_for content) items; carried = push.carried }) (record { commands = map (command_for content) items; carried = Ok is.set }) =
-    ap (λ set. record { commands = map (command_for content) items; carried = set }) is.carried in
-    sent_push content items is.set some few is.complete is.sorted is.sent names r held bytes (spelled ∙ ap (λ t. flat_map spelling (push_lines t)) (commands ∙ carries))
+    let asked : push ≡ record push { atomic = atomic } = ap (λ (b : Bool). record push { atomic = b }) asks in
+    let commands : ◌≡◌ {A = PushText} (record push { atomic = atomic }) (record { atomic = atomic; commands = map (command_for content) items; carried = push.carried }) =
+    ap (λ cs. record { atomic = atomic; commands = cs; carried = push.carried }) is.commands in
+    let carries : ◌≡◌ {A = PushText} (record { atomic = atomic; commands = map (command_for content) items; carried = push.carried }) (record { atomic = atomic; commands = map (command_for content) items; carried = Ok is.set }) =
+    ap (λ set. record { atomic = atomic; commands = map (command_for content) items; carried = set }) is.carried in
+    sent_push content atomic items is.set some few is.complete is.sorted is.sent names r held bytes (spelled ∙ ap (λ t. flat_map spelling (push_lines t)) (asked ∙ commands ∙ carries))
 
-pub sends_made : (content : FileMap) (items : List PushItem) (commands : List Command) (push : PushText) (bytes : List ℕ) → items ≢ [] → length items ≤ 256 → IsPushOf content items push
-    → push.commands ≡ commands_of commands → All (λ (c : Command). IsRefName c.name.items) commands → bytes ≡ flat_map spelling (push_lines push) → SendsPush content items bytes
-sends_made content items commands push bytes some few is are legal spelled =
-    sends_push content items push bytes some few is
+pub sends_made : (content : FileMap) (atomic : Bool) (items : List PushItem) (commands : List Command) (push : PushText) (bytes : List ℕ) → items ≢ [] → length items ≤ 256 → IsPushOf content items push → push.atomic ≡ atomic
+    → push.commands ≡ commands_of commands → All (λ (c : Command). IsRefName c.name.items) commands → bytes ≡ flat_map spelling (push_lines push) → SendsPush content atomic items bytes
+sends_made content atomic items commands push bytes some few is asks are legal spelled =
+    sends_push content atomic items push bytes some few is asks
     (subst (AllByRecursion (λ (c : CommandText). IsRefName c.name)) (sym are) (legal_texts commands (recursion_from_All (λ (c : Command). IsRefName c.name.items) commands legal))) spelled
 
 -- ---- what refuses it

@@ -1,5 +1,5 @@
 -- The push that is sent, as the machine has it: its message, or the number that refuses it.
-use Rattle.std.specs.Prelude.{◌≤◌, ℕ, List, None, length, false, ⊤}
+use Rattle.std.specs.Prelude.{◌≤◌, ℕ, Bool, List, None, length, ⊤}
 use Rattle.vc_sending.specs.Sending.{machine_items}
 use Rattle.vc_sending.specs.declared.item.PushItem.{PushItem}
 use Rattle.vc_sending.specs.declared.send_fault.SendFault.{SendFault}
@@ -21,19 +21,19 @@ use Rattle.vc_rules.specs.OpenPushes.{HoldsContent}
 use Rattle.vc_push.specs.Push.{max_commands}
 
 -- The machine's message, where nothing refuses the push: the bytes are how it is written.
-pub record IsSentPush (r : Repository) (items : List machine.PushItem) (bytes : List ℕ) : Type 0 where
+pub record IsSentPush (r : Repository) (atomic : Bool) (items : List machine.PushItem) (bytes : List ℕ) : Type 0 where
   pub commands : List Command
   pub objects : Objects
   pub few : length items ≤ max_commands
   pub complete : (x : Id) → IsItemId items x → IsClosed git (stored r.objects) x
   pub commands_are : AreCommandsFor r.refs items commands
   pub objects_are : IsDifference git r.objects (IsItemId items) (IsTrackingValue r.refs) objects
-  pub written : IsWritten (Push false None commands objects) bytes
+  pub written : IsWritten (Push atomic None commands objects) bytes
 
 -- Whatever repository is held. Zero is no object's name, but nothing of the machine says so: an item with that id would be written
 -- as a deletion, which brings no objects.
-abbrev pub SendsPush : FileMap → List PushItem → List ℕ → Type 0
-SendsPush content items bytes = (r : Repository) → HoldsContent content r → ¬ IsItemId (machine_items items) zero_id → IsSentPush r (machine_items items) bytes
+abbrev pub SendsPush : FileMap → Bool → List PushItem → List ℕ → Type 0
+SendsPush content atomic items bytes = (r : Repository) → HoldsContent content r → ¬ IsItemId (machine_items items) zero_id → IsSentPush r atomic (machine_items items) bytes
 
 -- the machine refuses the push with this number, whatever repository is held
 abbrev pub IsDeclined : FileMap → List PushItem → ℕ → Type 0

@@ -199,14 +199,16 @@ fn objects_for<F: Files>(
     }
 }
 
-// The push of the items.
+// The push of the items, which may be atomic.
 fn push_for<F: Files>(
     alloc: Global,
     files: &mut F,
     reached: &mut Reached,
+    atomic: bool,
     items: &[PushItem],
 ) -> Result<Push, SendFault>
     ensures push { F.honest → StandsIn (F.content files.old) reached.old → IfOk result (λ push. IsPushOf (F.content files.old) items.now (push_text push)) }
+    ensures atomic { IfOk result (λ push. push.atomic ≡ atomic) }
     ensures legal { IfOk result (λ push. All (λ command. IsRefName command.name.items) push.commands.items) }
     ensures stands { F.honest → StandsIn (F.content files.old) reached.old → StandsIn (F.content files.old) reached.new }
     ensures refused { F.honest → IfErr result (IsRefusedSend (F.content files.old) (item_ids items.now)) }
@@ -217,6 +219,7 @@ fn push_for<F: Files>(
     let objects = objects_for(alloc, files, reached, &ids)?;
     let commands = commands_for(alloc, files, items)?;
     Ok(Push {
+        atomic,
         commands,
         carried: Ok(objects),
     })
@@ -232,7 +235,7 @@ pub fn list_message(alloc: Global) -> Result<Vec<u8>, AllocError>
 
 /// The message by which a clone asks the shared node to change refs: a command for each item, from what the clone's tracking
 /// ref says of a branch to the id of the item, and the objects that the ids reach and no tracking ref does, in order of
-/// name. There is at least one item.
+/// name. There is at least one item. In an atomic push all refs are to be set, or none.
 ///
 /// More than 256 items are refused (84), and then the first id of which not all is there (40). The clone's files stay as
 /// they are.
@@ -244,10 +247,11 @@ pub fn push_message<F: Files>(
     alloc: Global,
     files: &mut F,
     reached: &mut Reached,
+    atomic: bool,
     items: &[PushItem],
 ) -> Result<Vec<u8>, SendFault>
     requires some { items.now ≢ [] }
-    ensures sent { F.honest → StandsIn (F.content files.old) reached.old → IfOk result (λ bytes. SendsPush (F.content files.old) items.now bytes.items) }
+    ensures sent { F.honest → StandsIn (F.content files.old) reached.old → IfOk result (λ bytes. SendsPush (F.content files.old) atomic items.now bytes.items) }
     ensures refused { F.honest → IfErr result (IsRefusedPush (F.content files.old) items.now) }
     ensures declined { F.honest → IfErr result (DeclinesPush (F.content files.old) items.now) }
     ensures stands { F.honest → StandsIn (F.content files.old) reached.old → StandsIn (F.content files.old) reached.new }
@@ -257,7 +261,7 @@ pub fn push_message<F: Files>(
     if items.len() > MAX_COMMANDS {
         return Err(SendFault::TooMany);
     }
-    let push = push_for(alloc, files, reached, items)?;
+    let push = push_for(alloc, files, reached, atomic, items)?;
     let bytes = push.write(alloc)?;
     Ok(bytes)
 }

@@ -1,5 +1,5 @@
 -- A push, as real nodes tell of its calls.
-use Rattle.std.proofs.Common.{◌≡◌, ℕ, List, ◌∷◌, Option, Some, None, Result, Ok, Err, inl, inr, map, refl, sym, ap, ◌∙◌, subst, false, []}
+use Rattle.std.proofs.Common.{◌≡◌, ℕ, Bool, List, ◌∷◌, Option, Some, None, Result, Ok, Err, inl, inr, map, refl, sym, ap, ◌∙◌, subst, []}
 use Rattle.std.specs.Global.{Global}
 use Rattle.std.specs.Prelude.{IfErr, IfOk, Vec}
 use Rattle.std.proofs.lemmas.Option.{same_Some}
@@ -80,21 +80,21 @@ module _ {R : Type 0} (told : R → Answer) where
   tells_stray m received e other = tells_report m received (Err Stray) e tt other
 
 -- ---- the calls
-module _ {P R F A : Type 0} (holds : P → SharedNode → Type 0) (told : R → Answer) (remaining : A → Option (List ℕ)) (content : F → FileMap) (items : List PushItem) where
+module _ {P R F A : Type 0} (holds : P → SharedNode → Type 0) (told : R → Answer) (remaining : A → Option (List ℕ)) (content : F → FileMap) (atomic : Bool) (items : List PushItem) where
   -- the clone's call with the push's items, and the peer's with the message of these bytes
   abbrev pub Starts : Result (Vec ℕ Global) CloneFault → Held F → Held F → Type 0
-  Starts result was is = Calls content (Command (StartPush false (machine_items items))) (SentAs result) was is
+  Starts result was is = Calls content (Command (StartPush atomic (machine_items items))) (SentAs result) was is
 
   abbrev pub Answers : List ℕ → Result (Reply A) R → P → P → Type 0
   Answers bytes result old new = (m : Message) → Reads bytes m → AnswersPeer holds told remaining m result old new
 
   abbrev Begins : CloneNode → CloneNode → Message → Type 0
-  Begins c d m = CloneMaySend git git_rules c (Command (StartPush false (machine_items items))) d m
+  Begins c d m = CloneMaySend git git_rules c (Command (StartPush atomic (machine_items items))) d m
 
-  pub not_sent : (old : P) (fault : CloneFault) (was is : Held F) → Starts (Err fault) was is → Leads holds (HoldsClone content) old old was is (IsPush told items (Err (Clone fault)))
+  pub not_sent : (old : P) (fault : CloneFault) (was is : Held F) → Starts (Err fault) was is → Leads holds (HoldsClone content) old old was is (IsPush told atomic items (Err (Clone fault)))
   not_sent old fault was is k = record {
     each = λ s c hs hc.
-        let v = led content (Command (StartPush false (machine_items items))) (SentAs (Err fault)) was is c k hc in (
+        let v = led content (Command (StartPush atomic (machine_items items))) (SentAs (Err fault)) was is c k hc in (
           s,
           v.node,
           hs,
@@ -103,7 +103,7 @@ module _ {P R F A : Type 0} (holds : P → SharedNode → Type 0) (told : R → 
             v.answer,
             None,
             v.shown.answer,
-            unsent (subst (λ sends. CloneMayAnswer git git_rules c (Command (StartPush false (machine_items items))) v.answer v.node sends) v.shown.sent v.may) refl refl,
+            unsent (subst (λ sends. CloneMayAnswer git git_rules c (Command (StartPush atomic (machine_items items))) v.answer v.node sends) v.shown.sent v.may) refl refl,
           ),
         );
   }
@@ -118,17 +118,17 @@ module _ {P R F A : Type 0} (holds : P → SharedNode → Type 0) (told : R → 
 
   begun : (bytes : Vec ℕ Global) (was is : Held F) (c : CloneNode) → Starts (Ok bytes) was is → HoldsClone content was c → Begun c bytes.items is
   begun bytes was is c k hc =
-      let v = led content (Command (StartPush false (machine_items items))) (SentAs (Ok bytes)) was is c k hc in
+      let v = led content (Command (StartPush atomic (machine_items items))) (SentAs (Ok bytes)) was is c k hc in
       record {
         node = v.node;
         held = v.held;
         push = v.shown.message;
         reads = v.shown.written.reads;
-        sends = (v.answer, subst (λ sends. CloneMayAnswer git git_rules c (Command (StartPush false (machine_items items))) v.answer v.node sends) v.shown.sent v.may);
+        sends = (v.answer, subst (λ sends. CloneMayAnswer git git_rules c (Command (StartPush atomic (machine_items items))) v.answer v.node sends) v.shown.sent v.may);
       }
 
   pub not_answered : (push : Vec ℕ Global) (sent : List ℕ) (refusal : R) (old new : P) (was is : Held F) → Starts (Ok push) was is → sent ≡ push.items → Answers sent (Err refusal) old new
-      → Leads holds (HoldsClone content) old new was is (IsPush told items (Err (Shared refusal)))
+      → Leads holds (HoldsClone content) old new was is (IsPush told atomic items (Err (Shared refusal)))
   not_answered push sent refusal old new was is k same asks = record {
     each = λ s c hs hc.
         let v = begun push was is c k hc in
@@ -148,7 +148,7 @@ module _ {P R F A : Type 0} (holds : P → SharedNode → Type 0) (told : R → 
 
   pub comes : (push : Vec ℕ Global) (sent : List ℕ) (answer : Reply A) (result : Result PushReport (ExchangeEnd R)) (old new : P) (was is after : Held F)
       → Starts (Ok push) was is → sent ≡ push.items → Answers sent (Ok answer) old new → ((m : Message) → Brings remaining answer m → TakesAnswer content m result is after)
-      → Leads holds (HoldsClone content) old new was after (IsPush told items result)
+      → Leads holds (HoldsClone content) old new was after (IsPush told atomic items result)
   comes push sent answer result old new was is after k same asks takes = record {
     each = λ s c hs hc.
         let v = begun push was is c k hc in
@@ -242,7 +242,7 @@ module _ {P R F A : Type 0} (holds : P → SharedNode → Type 0) (told : R → 
     done (Err Memory) t d a came h (pushed moved is came_is set tracked) = (tt, (set, tracked))
     done (Err Memory) t d a came h (failed f is) = absurd (did_no_fault (ReportedRefs h.0 h.1) f (sym h.2 ∙ is))
 
-  pub pushes_one : (result : Result PushReport (ExchangeEnd R)) (old new : P) (was is : Held F) → Leads holds (HoldsClone content) old new was is (IsPush told items result)
+  pub pushes_one : (result : Result PushReport (ExchangeEnd R)) (old new : P) (was is : Held F) → Leads holds (HoldsClone content) old new was is (IsPush told atomic items result)
       → Leads holds (HoldsClone content) old new was is (PushesOne told items result)
   pushes_one result old new was is leads = record {
     each = λ s c hs hc.
@@ -252,8 +252,8 @@ module _ {P R F A : Type 0} (holds : P → SharedNode → Type 0) (told : R → 
           w.2,
           w.3,
           λ b id same ready up may.
-              let hard = push_comes git git_rules false (machine_items items) s w.0 c w.1 w.4.0 w.4.1 ready.shared.good.sound ready.shared.bare ready.clone.sound ready.agree w.4.3 in
-              let run = subst (λ is. Rattle.vc_model.specs.Exchange.PushRun git git_rules false is s c w.4.0 w.0 w.1 w.4.1) same hard in
-              done b id result w.0 w.1 w.4.0 w.4.1 w.4.2 (push_ends git git_rules git_can_be_tracked false b (bytes_of_id id) s c ready may w.0 w.1 w.4.0 w.4.1 up run),
+              let hard = push_comes git git_rules atomic (machine_items items) s w.0 c w.1 w.4.0 w.4.1 ready.shared.good.sound ready.shared.bare ready.clone.sound ready.agree w.4.3 in
+              let run = subst (λ is. Rattle.vc_model.specs.Exchange.PushRun git git_rules atomic is s c w.4.0 w.0 w.1 w.4.1) same hard in
+              done b id result w.0 w.1 w.4.0 w.4.1 w.4.2 (push_ends git git_rules git_can_be_tracked atomic b (bytes_of_id id) s c ready may w.0 w.1 w.4.0 w.4.1 up run),
         );
   }

@@ -1,5 +1,5 @@
 -- What an exchange over real nodes says: whatever nodes were held before it, some are held after it, and its calls are a chain.
-use Rattle.std.specs.Prelude.{◌≡◌, ◌⊎◌, ◌++◌, ℕ, min, false, List, [], ◌∷◌, Option, Some, None, Result, Ok, Err, IfOk, IfErr}
+use Rattle.std.specs.Prelude.{◌≡◌, ◌⊎◌, ◌++◌, ℕ, Bool, min, List, [], ◌∷◌, Option, Some, None, Result, Ok, Err, IfOk, IfErr}
 use Rattle.vc_sending.specs.Sending.{machine_items}
 use Rattle.vc_sending.specs.declared.item.PushItem.{PushItem}
 use Rattle.vc_files.specs.Failures.{greatest_count}
@@ -145,9 +145,9 @@ IsRest told want result s c t d = (a : Answer) × RoundAs told result a × MayRe
 abbrev pub IsFetch : {R : Type 0} → (R → Answer) → Option ℕ → Result Fetched (ExchangeEnd R) → SharedNode → CloneNode → SharedNode → CloneNode → Type 0
 IsFetch told before result s c t d = (a : Answer) × (moved : ℕ) × FetchedAs told result a moved × MayFetch git git_rules before s c a t d moved
 
--- a push, by its calls
-abbrev pub IsPush : {R : Type 0} → (R → Answer) → List PushItem → Result PushReport (ExchangeEnd R) → SharedNode → CloneNode → SharedNode → CloneNode → Type 0
-IsPush told items result s c t d = (a : Answer) × (came : Option Message) × PushedAs told result a came × MayPushRun git git_rules false (machine_items items) s c a t d came
+-- a push, which may be atomic, by its calls
+abbrev pub IsPush : {R : Type 0} → (R → Answer) → Bool → List PushItem → Result PushReport (ExchangeEnd R) → SharedNode → CloneNode → SharedNode → CloneNode → Type 0
+IsPush told atomic items result s c t d = (a : Answer) × (came : Option Message) × PushedAs told result a came × MayPushRun git git_rules atomic (machine_items items) s c a t d came
 
 -- Where the nodes were ready and up, the clone has caught up with nothing left, or a fault ended the fetch. They are ready again, and the
 -- shared node stores what it stored.

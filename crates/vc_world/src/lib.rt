@@ -19,4 +19,4 @@ pub use laws::{
     a_chain_of_calls_is_a_push,
 };
 pub use peer::{Peer, Reply};
-pub use pushing::exchange_push;
+pub use pushing::{exchange_push, exchange_push_atomic};

@@ -1,10 +1,15 @@
 // A whole push.
-ghost use Rattle.std.specs.Prelude.{◌≡◌, ◌≢◌, [], IfErr, IfOk};
+ghost use Rattle.std.specs.Prelude.{◌≡◌, ◌≢◌, [], IfErr, IfOk, false, true};
 ghost use Rattle.vc_files.specs.Failures.{Wears, Writes, unstopped};
 ghost use Rattle.vc_message.specs.AnyView.{message_text};
 ghost use Rattle.vc_message.specs.Machine.{IsReport, Reads, TextOf};
 ghost use Rattle.vc_model.specs.Message.{Message as Sent};
-ghost use Rattle.vc_node.specs.Node.{PushesNoZero};
+ghost use Rattle.vc_model.specs.Clone.Task.{StartPush};
+ghost use Rattle.vc_model.specs.CloneCall.CloneCall.{Command};
+ghost use Rattle.vc_node.specs.CloneCalls.{SentAs};
+ghost use Rattle.vc_node.specs.CloneFaults.{TellsDevice as TellsCloneDevice};
+ghost use Rattle.vc_node.specs.Node.{AnswersCall, PushesNoZero};
+ghost use Rattle.vc_sending.specs.Sending.{machine_items};
 ghost use Rattle.vc_push.specs.ReportView.{report_text};
 ghost use Rattle.vc_node.specs.Stored.{KeepsOwn};
 ghost use Rattle.vc_world.specs.Devices.{BringsNone, IsLost, IsOwn, Lost, TellsClone, TellsPeer, WritesOrLoses};
@@ -173,21 +178,39 @@ fn take_reply<F: Files, A: Source + Drop, R: Drop>(
     }
 }
 
-/// A push of the items, of which there is at least one: the clone sends it, and takes the report. It is the report that is answered.
-pub fn exchange_push<P: Peer, F: Files>(
+// The clone's message of a push, which may be atomic.
+fn start<F: Files>(
+    clone: &mut CloneNode<F>,
+    atomic: bool,
+    items: &[PushItem],
+) -> Result<Vec<u8>, CloneFault>
+    requires some { items.now ≢ [] }
+    ensures answers { F.honest → PushesNoZero items.now → AnswersCall F.content (Command (StartPush atomic (machine_items items.now))) (SentAs result) clone.old clone.new }
+    ensures same { F.content clone.new.files ≡ F.content clone.old.files }
+    ensures wear { Wears F.failed F.can_fail F.left clone.old.files clone.new.files (TellsCloneDevice result) }
+{
+    if atomic {
+        return clone.start_push_atomic(items);
+    }
+    clone.start_push(items)
+}
+
+// A whole push, which may be atomic.
+fn exchange<P: Peer, F: Files>(
     alloc: Global,
     shared: &mut P,
     clone: &mut CloneNode<F>,
+    atomic: bool,
     items: &[PushItem],
 ) -> Result<Report, ExchangeEnd<P::Refusal>>
     requires some { items.now ≢ [] }
-    ensures pushed { P.honest → F.honest → PushesNoZero items.now → Leads P.holds (HoldsClone F.content) shared.old shared.new clone.old clone.new (IsPush P.told items.now result) }
+    ensures pushed { P.honest → F.honest → PushesNoZero items.now → Leads P.holds (HoldsClone F.content) shared.old shared.new clone.old clone.new (IsPush P.told atomic items.now result) }
     ensures done { P.honest → F.honest → PushesNoZero items.now → Leads P.holds (HoldsClone F.content) shared.old shared.new clone.old clone.new (PushesOne P.told items.now result) }
     ensures kept { F.honest → KeepsOwn (F.content clone.old.files) (F.content clone.new.files) }
     ensures wear { WritesOrLoses (Lost P.loses P.Answer.remaining P.Answer.failed P.Answer.can_fail) F.honest F.content F.failed F.can_fail F.left clone.old.files clone.new.files (TellsClone result) }
     ensures peer_wear { Wears P.failed P.can_fail unstopped shared.old shared.new (TellsPeer P.is_device result) }
 {
-    let push = match clone.start_push(items) {
+    let push = match start(clone, atomic, items) {
         Ok(push) => push,
         Err(fault) => return Err(ExchangeEnd::Clone(fault)),
     };
@@ -196,4 +219,38 @@ pub fn exchange_push<P: Peer, F: Files>(
         Err(refusal) => return Err(ExchangeEnd::Shared(refusal)),
     };
     take_reply(alloc, clone, reply)
+}
+
+/// A push of the items, of which there is at least one: the clone sends it, and takes the report. It is the report that is answered.
+pub fn exchange_push<P: Peer, F: Files>(
+    alloc: Global,
+    shared: &mut P,
+    clone: &mut CloneNode<F>,
+    items: &[PushItem],
+) -> Result<Report, ExchangeEnd<P::Refusal>>
+    requires some { items.now ≢ [] }
+    ensures pushed { P.honest → F.honest → PushesNoZero items.now → Leads P.holds (HoldsClone F.content) shared.old shared.new clone.old clone.new (IsPush P.told false items.now result) }
+    ensures done { P.honest → F.honest → PushesNoZero items.now → Leads P.holds (HoldsClone F.content) shared.old shared.new clone.old clone.new (PushesOne P.told items.now result) }
+    ensures kept { F.honest → KeepsOwn (F.content clone.old.files) (F.content clone.new.files) }
+    ensures wear { WritesOrLoses (Lost P.loses P.Answer.remaining P.Answer.failed P.Answer.can_fail) F.honest F.content F.failed F.can_fail F.left clone.old.files clone.new.files (TellsClone result) }
+    ensures peer_wear { Wears P.failed P.can_fail unstopped shared.old shared.new (TellsPeer P.is_device result) }
+{
+    exchange(alloc, shared, clone, false, items)
+}
+
+/// The same of an atomic push: all its refs are set, or none.
+pub fn exchange_push_atomic<P: Peer, F: Files>(
+    alloc: Global,
+    shared: &mut P,
+    clone: &mut CloneNode<F>,
+    items: &[PushItem],
+) -> Result<Report, ExchangeEnd<P::Refusal>>
+    requires some { items.now ≢ [] }
+    ensures pushed { P.honest → F.honest → PushesNoZero items.now → Leads P.holds (HoldsClone F.content) shared.old shared.new clone.old clone.new (IsPush P.told true items.now result) }
+    ensures done { P.honest → F.honest → PushesNoZero items.now → Leads P.holds (HoldsClone F.content) shared.old shared.new clone.old clone.new (PushesOne P.told items.now result) }
+    ensures kept { F.honest → KeepsOwn (F.content clone.old.files) (F.content clone.new.files) }
+    ensures wear { WritesOrLoses (Lost P.loses P.Answer.remaining P.Answer.failed P.Answer.can_fail) F.honest F.content F.failed F.can_fail F.left clone.old.files clone.new.files (TellsClone result) }
+    ensures peer_wear { Wears P.failed P.can_fail unstopped shared.old shared.new (TellsPeer P.is_device result) }
+{
+    exchange(alloc, shared, clone, true, items)
 }

@@ -5,8 +5,8 @@ use Rattle.vc_files.proofs.FileMapLemmas.{outside_same}
 use Rattle.vc_files.proofs.WearLemmas.{writes_none}
 use Rattle.vc_message.specs.AnyMessage.{a_push}
 use Rattle.vc_message.specs.AnyView.{message_text}
-use Rattle.vc_push.specs.Push.{PushText}
-use Rattle.vc_push.specs.PushView.{commands_of}
+use Rattle.vc_push.specs.Push.{HeadText, PushText, with_carried}
+use Rattle.vc_push.specs.PushView.{head_text}
 use Rattle.vc_node.proofs.ArrivedLemmas.{dropped_beside, message_writes, others_beside, push_refused}
 use Rattle.vc_node.proofs.ArrivingLemmas.{no_device, stopped_by}
 use Rattle.vc_node.proofs.ExchangingLemmas.{other_unexpected}
@@ -48,7 +48,7 @@ returns-in-Message-clause-beside g c = λ honest. others_beside _ _ (c.take.ensu
 pub returns-in_err-skip_push-in-Push-clause-comes : goal.returns-in_err-skip_push-in-Push-clause-comes
 returns-in_err-skip_push-in-Push-clause-comes g c =
     let p = err_from_is_err_and c.from_residual-in_err-skip_push-in-Push.result c.from_residual-in_err-skip_push-in-Push.ensures.1 in
-    rw (p.1, p.2) (λ before so. stopped _ refl (stopped_by before _ c.in_err-skip_push-in-Push.field-0.0 (c.in_err-skip_push-in-Push.ensures.fault before (commands_of c.in-Push.field-0.items) (rw c.in-Push.is at so))) (λ honest. outside_same _ _) refl)
+    rw (p.1, p.2) (λ before so. stopped _ refl (stopped_by before _ c.in_err-skip_push-in-Push.field-0.0 (c.in_err-skip_push-in-Push.ensures.fault before (head_text c.in-Push.field-0) (rw c.in-Push.is at so))) (λ honest. outside_same _ _) refl)
 
 pub returns-in_err-skip_push-in-Push-clause-cleared : goal.returns-in_err-skip_push-in-Push-clause-cleared
 returns-in_err-skip_push-in-Push-clause-cleared g c = λ honest up dropped. dropped
@@ -66,9 +66,9 @@ pub returns-in-Push-clause-comes : goal.returns-in-Push-clause-comes
 returns-in-Push-clause-comes g c = λ before so.
     let content = g.F.Files.content c.args.files.now in
     let waits = awaited_text c.args.awaited.now in
-    let commands = commands_of c.in-Push.field-0.items in
-    let all = c.in_ok-skip_push-in-Push.ensures.end before commands (rw c.in-Push.is at so) in
-    let push : PushText = record { commands = commands; carried = all.0 } in
+    let head : HeadText = head_text c.in-Push.field-0 in
+    let all = c.in_ok-skip_push-in-Push.ensures.end before head (rw c.in-Push.is at so) in
+    let push : PushText = with_carried head all.0 in
     whole (a_push push) all.1 (Err Unexpected) refl (λ honest. push_refused content waits push) (λ honest m is. other_unexpected content waits m (a_push push) tt is)
 
 pub returns-in-Push-clause-cleared : goal.returns-in-Push-clause-cleared

@@ -21,5 +21,5 @@ returns-clause-sent g c honest stands =
     let content = g.F.Files.content c.args.files.now in
     let items = c.args.items.now in
     let few : length items ≤ 256 = omega (arith, c.if-items-gt-MAX_COMMANDS.false) in
-    sends_made content items c.in_ok-push.push.commands.items (push_text c.in_ok-push.push) c.in_ok-bytes.bytes.items c.requires.some few (c.in_ok-push.ensures.push honest stands) refl
+    sends_made content c.args.atomic items c.in_ok-push.push.commands.items (push_text c.in_ok-push.push) c.in_ok-bytes.bytes.items c.requires.some few (c.in_ok-push.ensures.push honest stands) c.in_ok-push.ensures.atomic refl
     c.in_ok-push.ensures.legal c.in_ok-bytes.ensures

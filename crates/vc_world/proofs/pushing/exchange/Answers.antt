@@ -8,14 +8,14 @@ use Rattle.vc_world.specs.declared.ending.ExchangeEnd.TheVariants.{Clone, Shared
 use Rattle.vc_node.proofs.OwnLemmas.{own_same, own_then}
 use Rattle.vc_world.proofs.PushCalls.{comes, not_answered, not_sent, pushes_one}
 use Rattle.vc_world.proofs.WearLemmas.{lost_told, none_lost, one_lost, own_peer, then_lost}
-use Rattle.vc_world.proofs.pushing.exchange_push.Goals as goal
+use Rattle.vc_world.proofs.pushing.exchange.Goals as goal
 
 pub returns-in-Err : goal.returns-in-Err
 returns-in-Err g c =
-    let leads = λ (p : g.P.Peer.honest) (f : g.F.Files.honest) (z : ¬ IsItemId (machine_items c.args.items.now) zero_id). not_sent g.P.Peer.holds g.P.Peer.told g.P.Answer.Source.remaining g.F.Files.content c.args.items.now c.args.shared.now c.in-Err.fault c.args.clone.now c.start_push.new.self (c.in-Err.ensures.answers f z) in
+    let leads = λ (p : g.P.Peer.honest) (f : g.F.Files.honest) (z : ¬ IsItemId (machine_items c.args.items.now) zero_id). not_sent g.P.Peer.holds g.P.Peer.told g.P.Answer.Source.remaining g.F.Files.content c.args.atomic c.args.items.now c.args.shared.now c.in-Err.fault c.args.clone.now c.start.new.clone (c.in-Err.ensures.answers f z) in
     record {
       pushed = leads;
-      done = λ p f z. pushes_one g.P.Peer.holds g.P.Peer.told g.P.Answer.Source.remaining g.F.Files.content c.args.items.now (Err (Clone c.in-Err.fault)) c.args.shared.now c.args.shared.now c.args.clone.now c.start_push.new.self (leads p f z);
+      done = λ p f z. pushes_one g.P.Peer.holds g.P.Peer.told g.P.Answer.Source.remaining g.F.Files.content c.args.atomic c.args.items.now (Err (Clone c.in-Err.fault)) c.args.shared.now c.args.shared.now c.args.clone.now c.start.new.clone (leads p f z);
       kept = λ f. own_same _ _ c.in-Err.ensures.same;
       wear = none_lost (wears_writes c.in-Err.ensures.wear (λ h. c.in-Err.ensures.same));
       peer_wear = looks_none (λ never. never);
@@ -23,10 +23,10 @@ returns-in-Err g c =
 
 pub returns-in-Err-ask : goal.returns-in-Err-ask
 returns-in-Err-ask g c =
-    let leads = λ (p : g.P.Peer.honest) (f : g.F.Files.honest) (z : ¬ IsItemId (machine_items c.args.items.now) zero_id). not_answered g.P.Peer.holds g.P.Peer.told g.P.Answer.Source.remaining g.F.Files.content c.args.items.now c.in-Ok.push c.deref.result.now c.in-Err-ask.refusal c.args.shared.now c.ask.new.self c.args.clone.now c.start_push.new.self (c.in-Ok.ensures.answers f z) c.deref.ensures.value (c.in-Err-ask.ensures.answers p) in
+    let leads = λ (p : g.P.Peer.honest) (f : g.F.Files.honest) (z : ¬ IsItemId (machine_items c.args.items.now) zero_id). not_answered g.P.Peer.holds g.P.Peer.told g.P.Answer.Source.remaining g.F.Files.content c.args.atomic c.args.items.now c.in-Ok.push c.deref.result.now c.in-Err-ask.refusal c.args.shared.now c.ask.new.self c.args.clone.now c.start.new.clone (c.in-Ok.ensures.answers f z) c.deref.ensures.value (c.in-Err-ask.ensures.answers p) in
     record {
       pushed = leads;
-      done = λ p f z. pushes_one g.P.Peer.holds g.P.Peer.told g.P.Answer.Source.remaining g.F.Files.content c.args.items.now (Err (Shared c.in-Err-ask.refusal)) c.args.shared.now c.ask.new.self c.args.clone.now c.start_push.new.self (leads p f z);
+      done = λ p f z. pushes_one g.P.Peer.holds g.P.Peer.told g.P.Answer.Source.remaining g.F.Files.content c.args.atomic c.args.items.now (Err (Shared c.in-Err-ask.refusal)) c.args.shared.now c.ask.new.self c.args.clone.now c.start.new.clone (leads p f z);
       kept = λ f. own_same _ _ c.in-Ok.ensures.same;
       wear = none_lost (wears_writes c.in-Ok.ensures.wear (λ h. c.in-Ok.ensures.same));
       peer_wear = c.in-Err-ask.ensures.wear;
@@ -34,11 +34,11 @@ returns-in-Err-ask g c =
 
 pub returns-clause-pushed : goal.returns-clause-pushed
 returns-clause-pushed g c p f z =
-    comes g.P.Peer.holds g.P.Peer.told g.P.Answer.Source.remaining g.F.Files.content c.args.items.now c.in-Ok.push c.deref.result.now c.in-Ok-ask.reply c.take_reply.result c.args.shared.now c.ask.new.self c.args.clone.now c.start_push.new.self c.take_reply.new.clone
+    comes g.P.Peer.holds g.P.Peer.told g.P.Answer.Source.remaining g.F.Files.content c.args.atomic c.args.items.now c.in-Ok.push c.deref.result.now c.in-Ok-ask.reply c.take_reply.result c.args.shared.now c.ask.new.self c.args.clone.now c.start.new.clone c.take_reply.new.clone
     (c.in-Ok.ensures.answers f z) c.deref.ensures.value (c.in-Ok-ask.ensures.answers p) (c.take_reply.ensures.takes f)
 
 pub returns-clause-done : goal.returns-clause-done
-returns-clause-done g c p f z = pushes_one g.P.Peer.holds g.P.Peer.told g.P.Answer.Source.remaining g.F.Files.content c.args.items.now c.take_reply.result c.args.shared.now c.ask.new.self c.args.clone.now c.take_reply.new.clone (returns-clause-pushed g c p f z)
+returns-clause-done g c p f z = pushes_one g.P.Peer.holds g.P.Peer.told g.P.Answer.Source.remaining g.F.Files.content c.args.atomic c.args.items.now c.take_reply.result c.args.shared.now c.ask.new.self c.args.clone.now c.take_reply.new.clone (returns-clause-pushed g c p f z)
 
 pub returns-clause-kept : goal.returns-clause-kept
 returns-clause-kept g c f = own_then (own_same _ _ c.in-Ok.ensures.same) (c.take_reply.ensures.kept f)
