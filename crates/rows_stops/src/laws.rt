@@ -1,5 +1,5 @@
 //! What holds of the files of the nodes at each moment: all that a ref reaches is there, the shared node's branches only go forward,
-//! and what a clone knows as a branch's value was its value.
+//! what a clone knows as a branch's value was its value, and refs that are set together have one value.
 
 use crate::disk::{Disk, OnDisk, counts};
 use anyhow::{Result, bail};
@@ -19,6 +19,8 @@ pub struct Seen {
     values: Vec<(RefName, ObjectId)>,
     // How many writes each disk had seen when it was looked at.
     looked: Vec<u64>,
+    // Refs that have one value, or none.
+    together: Vec<String>,
 }
 
 // The last value that the list has for a name.
@@ -30,6 +32,16 @@ fn last_value(values: &[(RefName, ObjectId)], name: &RefName) -> Option<ObjectId
         }
     }
     found
+}
+
+// The value of the ref of this name, if it has one.
+fn value_of(refs: &[(RefName, ObjectId)], name: &str) -> Option<ObjectId> {
+    for (other, id) in refs {
+        if other.as_str() == name {
+            return Some(*id);
+        }
+    }
+    None
 }
 
 fn ids_of(alloc: Global, refs: &[(RefName, ObjectId)]) -> Result<Vec<ObjectId>> {
@@ -59,13 +71,18 @@ pub fn refuse_partial(alloc: Global, disks: &[Disk]) -> Result<()> {
 }
 
 impl Seen {
-    /// Nothing was seen yet.
-    pub fn nothing(alloc: Global) -> Seen {
-        Seen {
+    /// Nothing was seen yet. These refs of the shared node are to have one value, or none.
+    pub fn nothing(alloc: Global, together: &[String]) -> Result<Seen> {
+        let mut names = Vec::new(alloc);
+        for name in together {
+            names.push(name.clone()?)?;
+        }
+        Ok(Seen {
             alloc,
             values: Vec::new(alloc),
             looked: Vec::new(alloc),
-        }
+            together: names,
+        })
     }
 
     /// Looks at the disk of the shared node, which is the first, and at those of the clones, if they were written to since.
@@ -98,7 +115,22 @@ impl Seen {
                 self.go_on(&mut files, name, id)?;
             }
         }
+        self.refuse_apart(&refs)?;
         self.refuse_gone(&refs)
+    }
+
+    // The refs that are set together have one value, or none.
+    fn refuse_apart(&self, refs: &[(RefName, ObjectId)]) -> Result<()> {
+        let Some((first, others)) = self.together.split_first() else {
+            return Ok(());
+        };
+        let value = value_of(refs, first);
+        for other in others {
+            if value_of(refs, other) != value {
+                bail!("{first} and {other} are apart");
+            }
+        }
+        Ok(())
     }
 
     // A branch has this value: the last one that was seen, or one that descends from it.

@@ -10,6 +10,8 @@ use vc_events::Letter;
 pub struct Script {
     pub clones: usize,
     pub lines: Vec<String>,
+    /// Refs of the shared node that have one value, or none, at each moment.
+    pub together: Vec<String>,
 }
 
 impl Script {
@@ -18,6 +20,7 @@ impl Script {
         Script {
             clones: 0,
             lines: Vec::new(alloc),
+            together: Vec::new(alloc),
         }
     }
 
@@ -26,6 +29,11 @@ impl Script {
         if let Some(number) = row.strip_prefix("world ") {
             self.clones = number.parse::<usize>()?;
             self.lines.clear();
+            self.together.clear();
+        } else if let Some(names) = row.strip_prefix("together ") {
+            for name in names.split(' ') {
+                self.together.push(String::from_str(alloc, name)?)?;
+            }
         } else {
             self.lines.push(String::from_str(alloc, row)?)?;
         }

@@ -107,7 +107,7 @@ fn played_on(alloc: Global, script: &Script, trouble: &Trouble, disks: &[Disk]) 
         disks,
         clones: disks.len().saturating_sub(1),
         world,
-        seen: Seen::nothing(alloc),
+        seen: Seen::nothing(alloc, &script.together)?,
         trouble: *trouble,
         node: name_of(alloc, trouble.place)?,
         faults: 0,

@@ -81,7 +81,7 @@ fn cut<'a, 'b>(answers: &'a [&'b [u8]], first: usize, count: usize) -> &'a [&'b 
     mine
 }
 
-// Prints a row, and its answers behind it.
+// Prints a row, and its answers after it.
 fn print_row<W: Write>(row: &Row, answers: &[&[u8]], out: &mut W) -> io::Result<()> {
     out.write_all(row.text.as_bytes())?;
     if !answers.is_empty() {

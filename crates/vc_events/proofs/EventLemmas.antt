@@ -92,6 +92,8 @@ deed_senders senders m c (deed.Opened k) eight below each j =
 deed_senders senders m c (deed.Passed n) eight below each j = each j
 deed_senders senders m c deed.Migrated eight below each j = each j
 deed_senders senders m c (deed.Updated name found) eight below each j = each j
+deed_senders senders m c (deed.Atomic n) eight below each j = each j
+deed_senders senders m c (deed.AtomicRefused name reason) eight below each j = each j
 deed_senders senders m c (deed.Moved moved left) eight below each j = each j
 deed_senders senders m c (deed.Reported moved refused) eight below each j = each j
 
@@ -109,6 +111,8 @@ deed_known senders c n (deed.Opened k) eight there each j = either (nat_lt k 8) 
 deed_known senders c n (deed.Passed m) eight there each j = each j
 deed_known senders c n deed.Migrated eight there each j = each j
 deed_known senders c n (deed.Updated name found) eight there each j = each j
+deed_known senders c n (deed.Atomic m) eight there each j = each j
+deed_known senders c n (deed.AtomicRefused name reason) eight there each j = each j
 deed_known senders c n (deed.Moved moved left) eight there each j = each j
 deed_known senders c n (deed.Reported moved refused) eight there each j = each j
 

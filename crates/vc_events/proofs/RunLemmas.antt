@@ -7,16 +7,15 @@ use Rattle.vc_model.specs.Shared.{SharedNode}
 use Rattle.vc_model.specs.Clone.{CloneNode}
 use Rattle.vc_model.specs.World.{IsNew, World as MachineWorld, StartsSound}
 use Rattle.vc_model.specs.Object.{Object}
-use Rattle.vc_model.specs.Run.{History, NoCollision, OccursIn, Run}
+use Rattle.vc_model.specs.Run.{History, OccursIn}
 use Rattle.vc_model.specs.Run.OccursIn.{in_clone}
-use Rattle.vc_model.specs.Safe.{AncestorEver, EveryNodeSound, IsSafe}
+use Rattle.vc_model.specs.Safe.{EveryNodeSound, IsGuarded, IsSafe}
 use Rattle.vc_model.specs.Exact.{Shadows}
 use Rattle.vc_model.specs.ExactWorld.{FusedWorld, WorldEvent, ExactMoment, ExactHistory, fused_after, ExactRun, IsHonest, NoExactCollision, NothingForgedExactly, OccursExactly}
 use Rattle.vc_model.proofs.ExactRuns.{exact_run, honest_shadow, same_world}
-use Rattle.vc_model.proofs.Runs.{every_node_closed, front_one, front_run, monotone, stays_sound}
-use Rattle.vc_model.proofs.Values.{ever_later}
+use Rattle.vc_model.proofs.Runs.{stays_sound}
 use Rattle.vc_model.proofs.Kept.{new_is_sound}
-use Rattle.vc_model.proofs.Safety.{every_run_safe}
+use Rattle.vc_model.proofs.Safety.{every_run_guarded, every_run_safe}
 use Rattle.vc_wire.proofs.WireLaws.{message_wire}
 use Rattle.vc_rules.specs.Git.{git}
 use Rattle.vc_events.specs.declared.events.Event.{Event}
@@ -27,7 +26,7 @@ use Rattle.vc_events.specs.declared.world.World.{World}
 use Rattle.vc_events.specs.Calls.{Seen}
 use Rattle.vc_events.specs.Events.{IsEnd, event_of}
 use Rattle.vc_events.specs.World.{HoldsAt, AreLetters, HoldsWorld, NoZeros, Steps, IsSame}
-use Rattle.vc_events.specs.Running.{AreApart, EveryRunIsSafe, ForgesNothing, GoesOn, IsGuarded, IsLengthened, IsNext, IsSent, Lengthens, RunsSafely}
+use Rattle.vc_events.specs.Running.{AreApart, EveryRunIsSafe, ForgesNothing, GoesOn, IsLengthened, IsNext, IsSent, Lengthens, RunsSafely}
 
 -- ---- the nodes of a run are sound
 
@@ -87,23 +86,13 @@ forges_nothing start h k (e ∷ es) [] sent honest is = absurd is
 
 -- ---- what holds of a run of a new world, whoever forged what
 
-guarded : (n : ℕ) (start : FusedWorld) (p : History) → IsNew start.world n → Run git start.world p → NoCollision git start.world p → IsGuarded start p
-guarded n start p is_new r one = record {
-  closed = λ late early is. every_node_closed git start.world late early (new_is_sound git start.world n is_new) (subst (Run git start.world) is r) (subst (NoCollision git start.world) is one);
-  monotone = λ later late early b x is v.
-      let r' : Run git start.world (later ++ (late ++ early)) = subst (Run git start.world) is r in
-      let one' : NoCollision git start.world (later ++ (late ++ early)) = subst (NoCollision git start.world) is one in
-      let y = monotone git start.world late early b x (new_is_sound git start.world n is_new) (front_run git start.world later (late ++ early) r') (front_one git start.world later (late ++ early) one') v in
-      (y.0, y.1, subst (λ (k : History). AncestorEver git start.world k x y.0) (sym is) (ever_later git start.world later (late ++ early) x y.0 y.2));
-}
-
 abbrev IsSafely : FusedWorld → ExactHistory → Type 0
-IsSafely start k = (p : History) × Shadows git message_wire start k p × IsGuarded start p × (NothingForgedExactly git message_wire k → IsSafe git start.world p)
+IsSafely start k = (p : History) × Shadows git message_wire start k p × IsGuarded git start.world p × (NothingForgedExactly git message_wire k → IsSafe git start.world p)
 
 safely : (n : ℕ) (start : FusedWorld) (k : ExactHistory) → IsNew start.world n → ExactRun git message_wire start k → NoExactCollision git message_wire start k → IsSafely start k
 safely n start k is_new ran names =
     let p = exact_run git message_wire start k (new_is_sound git start.world n is_new) ran names in
-    (p.0, p.1, guarded n start p.0 is_new p.2 p.3, λ honest. every_run_safe git n start.world p.0 is_new p.2 p.3 (honest_shadow git message_wire start k p.0 p.1 honest))
+    (p.0, p.1, every_run_guarded git start.world p.0 (new_is_sound git start.world n is_new) p.2 p.3, λ honest. every_run_safe git n start.world p.0 is_new p.2 p.3 (honest_shadow git message_wire start k p.0 p.1 honest))
 
 module _ {S C : Type 0} (hs : Seen S SharedNode) (hc : Seen C CloneNode) where
   pub lengthens_none : (old : World S C) → Lengthens hs hc old [] [] old

@@ -1,7 +1,7 @@
 -- The machine's events.
 use Rattle.std.specs.Global.{Global}
 use Rattle.std.specs.List.{starts_with}
-use Rattle.std.specs.Prelude.{◌≡◌, ◌≢◌, ◌<◌, ℕ, true, false, nat_eq, List, [], map, option_map, Vec, codes}
+use Rattle.std.specs.Prelude.{◌≡◌, ◌≢◌, ◌<◌, ℕ, true, nat_eq, List, [], map, option_map, Vec, codes}
 use Rattle.vc_model.specs.ExactWorld.{Letter as MachineLetter, WorldEvent}
 use Rattle.vc_model.specs.ExactWorld.Letter.{FromClone, FromShared}
 use Rattle.vc_model.specs.ExactWorld.WorldEvent.{Compares, Delivers, Forges, Orders, Packs, Restarts, Steps, Stops}
@@ -38,7 +38,7 @@ order_of (order.SetHead name) = HeadOn name
 order_of (order.Detach expr) = HeadAt expr.items
 order_of (order.Load expr) = LoadIndex expr.items
 order_of order.Fetch = Fetch
-order_of (order.Push items) = PushItems false (map item_of items.items)
+order_of (order.Push atomic items) = PushItems atomic (map item_of items.items)
 
 abbrev pub party_of : Party → MachineParty
 party_of party.Shared = TheShared
@@ -70,7 +70,7 @@ IsInOrder (order.Stage path mode content) = mode ≢ modes.Tree
 IsInOrder (order.SetBranch name expr) = IsBranch name
 IsInOrder (order.DeleteBranch name) = IsBranch name
 IsInOrder (order.SetHead name) = IsBranch name
-IsInOrder (order.Push items) = items.items ≢ []
+IsInOrder (order.Push atomic items) = items.items ≢ []
 IsInOrder _ = Unit {0}
 
 abbrev pub IsParty : ℕ → Party → Type 0

@@ -25,7 +25,7 @@ pub record PostsNone (said : WorldAnswer) (old new : List Letter) (a : WorldAnsw
   pub letters : new ≡ old
   pub answer : a ≡ said
 
--- one letter is posted, behind the others
+-- one letter is posted, after the others
 pub record PostsOne (l : Letter) (old new : List Letter) (a : WorldAnswer) : Type 0 where
   pub letters : new ≡ old ++ l ∷ []
   pub answer : a ≡ answer.Sent (length old)

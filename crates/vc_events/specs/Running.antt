@@ -1,14 +1,14 @@
 -- Runs of a world: each that ends at the world before is lengthened to one that ends at the world after.
 use Rattle.std.specs.Global.{Global}
 use Rattle.std.specs.List.{AllByRecursion}
-use Rattle.std.specs.Prelude.{◌≡◌, ◌≢◌, ℕ, Bool, List, [], ◌∷◌, ◌++◌, Some, Result, Ok, Err, Vec, map, take, vec_len}
+use Rattle.std.specs.Prelude.{◌≡◌, ◌≢◌, ℕ, Bool, List, [], ◌∷◌, ◌++◌, Result, Ok, Err, Vec, map, take, vec_len}
 use Rattle.vc_wire.proofs.WireLaws.{message_wire}
 use Rattle.vc_model.specs.Clone.{CloneNode}
 use Rattle.vc_model.specs.Exact.{Shadows}
 use Rattle.vc_model.specs.ExactWorld.{ExactHistory, ExactMoment, ExactRun, FusedWorld, NoExactCollision, NothingForgedExactly, OccursExactly, WorldAnswers, fused_after}
-use Rattle.vc_model.specs.Object.{Id, Object, zero_id}
-use Rattle.vc_model.specs.Run.{History, world_after}
-use Rattle.vc_model.specs.Safe.{AncestorEver, EveryNodeClosed, IsSafe, branch_value}
+use Rattle.vc_model.specs.Object.{Object, zero_id}
+use Rattle.vc_model.specs.Run.{History}
+use Rattle.vc_model.specs.Safe.{IsGuarded, IsSafe}
 use Rattle.vc_model.specs.Shared.{SharedNode}
 use Rattle.vc_model.specs.World.{IsNew, StartsSound}
 use Rattle.vc_rules.specs.Git.{git}
@@ -62,14 +62,6 @@ pub record Lengthens {S C : Type 0} (seen_shared : Seen S SharedNode) (seen_clon
       → (k : ExactHistory) × IsLengthened start h es said k × HoldsWorld seen_shared seen_clone new (fused_after start k)
       × (AreApart start k → ExactRun git message_wire start k)
 
--- A guarded run, which a run is whatever bytes came to whom. An earlier moment is what is left of it without some of its front.
-pub record IsGuarded (start : FusedWorld) (p : History) : Type 0 where
-  -- at each moment each node's objects are closed under all its refs and its HEAD
-  pub closed : (late early : History) → p ≡ late ++ early → EveryNodeClosed git (world_after start.world early)
-  -- a branch that has a value has one at every later moment, of which the first is an ancestor
-  pub monotone : (later late early : History) (b : List ℕ) (x : Id) → p ≡ later ++ (late ++ early) → branch_value (world_after start.world early) b ≡ Some x →
-      (y : Id) × (branch_value (world_after start.world (late ++ early)) b ≡ Some y) × AncestorEver git start.world p x y
-
 -- The headline. Every run of a new world that ends at the world before is lengthened by these events and answers to one that ends
 -- at the world after: a run in which each node answers by the written rules, and a guarded one; and if nobody forged what a clone received,
 -- a safe one.
@@ -78,9 +70,9 @@ pub record RunsSafely {S C : Type 0} (seen_shared : Seen S SharedNode) (seen_clo
       → HoldsWorld seen_shared seen_clone old (fused_after start h)
       → (k : ExactHistory) × IsLengthened start h es said k × HoldsWorld seen_shared seen_clone new (fused_after start k)
       × (AreApart start k → ExactRun git message_wire start k
-      × ((p : History) × Shadows git message_wire start k p × IsGuarded start p × (NothingForgedExactly git message_wire k → IsSafe git start.world p)))
+      × ((p : History) × Shadows git message_wire start k p × IsGuarded git start.world p × (NothingForgedExactly git message_wire k → IsSafe git start.world p)))
 
--- one event more, and its answer behind the others
+-- one event more, and its answer after the others
 pub record GoesOn {S C : Type 0} (seen_shared : Seen S SharedNode) (seen_clone : Seen C CloneNode) (before after : List WorldAnswer) (old : World S C) (e : Event) (new : World S C) : Type 0 where
   pub answer : WorldAnswer
   pub said : after ≡ before ++ answer ∷ []

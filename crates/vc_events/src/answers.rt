@@ -24,6 +24,10 @@ pub enum Deed {
     Migrated,
     /// A ref was set, or why it was not.
     Updated(Vec<u8>, Option<Reason>),
+    /// All refs of an atomic push were set, so many.
+    Atomic(u64),
+    /// No ref of an atomic push was set: the name of the first command that has a cause of its own, and that cause.
+    AtomicRefused(Vec<u8>, Reason),
     /// So many refs moved, and so many advertised ids are not closed yet.
     Moved(usize, usize),
     /// A report was taken: so many refs moved, and these numbers refused the other commands, in order.

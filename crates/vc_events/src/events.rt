@@ -39,7 +39,8 @@ pub enum Order {
     Load(Vec<u8>),
     /// Asks for the shared node's refs.
     Fetch,
-    Push(Vec<NamedItem>),
+    /// Pushes items: whether all refs are to be set or none, and the items.
+    Push(bool, Vec<NamedItem>),
 }
 
 /// What may happen.

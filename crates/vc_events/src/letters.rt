@@ -10,7 +10,7 @@ pub enum Letter {
     ToClone(usize, Vec<u8>),
 }
 
-/// Puts a message behind the others, where there is room for it, and gives its number.
+/// Puts a message after the others, where there is room for it, and gives its number.
 pub(crate) fn post(letters: &mut Vec<Letter>, letter: Letter) -> usize
     requires { vec_len letters.old < vec_capacity letters.old }
     ensures items { letters.new.items ≡ letters.old.items ++ letter ∷ [] }

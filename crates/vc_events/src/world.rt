@@ -89,7 +89,7 @@ impl<S: SharedCalls, C: CloneCalls> World<S, C> {
         Ok(answers)
     }
 
-    // One event more, with its answer behind the others.
+    // One event more, with its answer after the others.
     fn more(
         &mut self,
         alloc: Global,

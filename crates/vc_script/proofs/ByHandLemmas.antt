@@ -15,7 +15,7 @@ orders_by_hand = (refl, refl, refl, refl, refl, refl, refl, refl, refl, refl)
 
 pub push_by_hand : PushByHand
 unfolding line_event event_in node_event asked_in ordered order_in verb_in party_in clone_in number_in push_in item_in branch_item_in branch_in name_in is_utf8 chars encode first_broken_rule
-push_by_hand = refl
+push_by_hand = (refl, refl)
 
 pub events_by_hand : EventsByHand
 unfolding line_event event_in node_event asked_in party_in clone_in number_in deliver_in step_in restart_in compare_in pack_in stop_in forge_in forged decoded_in hex_on_literals
@@ -23,7 +23,7 @@ events_by_hand = (refl, refl, refl, refl, refl, refl, refl, refl, refl, refl, re
 
 pub refused_by_hand : RefusedByHand
 unfolding line_event event_in node_event asked_in ordered order_in verb_in party_in clone_in number_in write_in decoded_in hex_on_literals head_in pack_in push_in step_in stop_in forge_in forged branch_in name_in is_utf8 chars encode first_broken_rule
-refused_by_hand = (refl, refl, refl, refl, refl, refl, refl, refl, refl, refl, refl, refl, refl, refl, refl, refl, refl, refl, refl)
+refused_by_hand = (refl, refl, refl, refl, refl, refl, refl, refl, refl, refl, refl, refl, refl, refl, refl, refl, refl, refl, refl, refl)
 
 pub scripts_by_hand : ScriptsByHand
 unfolding script_of script_in world_in clones_in line_event event_in node_event asked_in ordered order_in verb_in party_in clone_in number_in fetch_in step_in

@@ -28,7 +28,7 @@ refused_no_message X message fault e = cc
 pub no_refusal : (X : Type 0) (message : MessageText) (error : PktError) (fault : PktFault) → error ≡ Refused fault → Gives message_text (Err error) (Ok message) → X
 no_refusal X message error fault is given = refused_no_message X message fault (subst (λ e. Gives message_text (Err e) (Ok message)) is given)
 
--- a line behind the others
+-- a line after the others
 one_behind : (letters : List Letter) (answers : List Answer) (a : Answer) (added words : List ℕ) → AreLines letters answers added → AreWords letters a words → AreLines letters (answers ++ a ∷ []) (added ++ (words ++ 10 ∷ []))
 one_behind letters [] a added words lines is = (words, [], is, refl, ap (λ (front : List ℕ). front ++ (words ++ 10 ∷ [])) lines)
 one_behind letters (b ∷ answers) a added words (first, others, is_first, is_others, spelled) is =

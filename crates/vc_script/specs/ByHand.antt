@@ -1,5 +1,5 @@
 -- What some lines and scripts say, read by hand.
-use Rattle.std.specs.Prelude.{◌≡◌, ℕ, false, List, [], ◌∷◌, codes, Some, None}
+use Rattle.std.specs.Prelude.{◌≡◌, ℕ, true, false, List, [], ◌∷◌, codes, Some, None}
 use Rattle.vc_model.specs.ExactWorld.{WorldEvent}
 use Rattle.vc_model.specs.ExactWorld.Letter.{FromClone, FromShared}
 use Rattle.vc_model.specs.ExactWorld.WorldEvent.{Compares, Delivers, Forges, Orders, Packs, Restarts, Steps, Stops}
@@ -44,6 +44,7 @@ PushByHand =
     ∷ record { value = None; name = codes "refs/tags/u" }
     ∷ record { value = Some (codes "refs/heads/b"); name = codes "refs/heads/b" }
     ∷ []))
+    × Asks (codes "c0 push-atomic b") (PushItems true (record { value = Some (codes "refs/heads/b"); name = codes "refs/heads/b" } ∷ []))
 
 abbrev pub EventsByHand : Type 0
 EventsByHand =
@@ -66,6 +67,7 @@ RefusedByHand =
     × TellsNothing (codes "shared fetch")
     × TellsNothing (codes "c0  fetch")
     × TellsNothing (codes "c0 push")
+    × TellsNothing (codes "c0 push-atomic")
     × TellsNothing (codes "c0 pack all")
     × TellsNothing (codes "c0 head b..c")
     × TellsNothing (codes "c0 write blob 4a6")

@@ -1,5 +1,5 @@
 -- The lines of a script, and the event that each tells.
-use Rattle.std.specs.Prelude.{◌++◌, ℕ, false, List, [], ◌∷◌, codes, Option, Some, None, Ok, Err, Result, option_map, if◌then◌else◌}
+use Rattle.std.specs.Prelude.{◌++◌, ℕ, Bool, true, false, List, [], ◌∷◌, codes, Option, Some, None, Ok, Err, Result, option_map, if◌then◌else◌}
 use Rattle.std.specs.Str.{bytes_eq}
 use Rattle.hex.specs.Hex.{decode_of}
 use Rattle.vc_model.specs.ExactWorld.{Letter, WorldEvent}
@@ -16,7 +16,7 @@ use Rattle.vc_script.specs.Words.{all_in, branch_in, has_empty, item_in, number_
 use Rattle.vc_script.specs.declared.orders.Verb.{Verb}
 use Rattle.vc_script.specs.declared.orders.Verb.TheVariants as verb
 
--- ---- what a clone is told to do, by the words behind the verb
+-- ---- what a clone is told to do, by the words after the verb
 
 -- the bytes of hex digits
 abbrev pub decoded : {E : Type 0} → Result (List ℕ) E → Option (List ℕ)
@@ -49,7 +49,7 @@ unstage_in words = do
 abbrev pub somebody : List ℕ
 somebody = codes "a <a> 0 +0000"
 
--- the first word is the message; what is behind it are more parents
+-- the first word is the message; what is after it are more parents
 unfoldable pub commit_in : List (List ℕ) → Option Order
 commit_in [] = None
 commit_in (message ∷ parents) = Some (CommitIndex parents somebody somebody message)
@@ -87,9 +87,9 @@ fetch_in [] = Some Fetch
 fetch_in (word ∷ words) = None
 
 -- one item at least
-unfoldable pub push_in : List (List ℕ) → Option Order
-push_in [] = None
-push_in (word ∷ words) = option_map (PushItems false) (all_in item_in (word ∷ words))
+unfoldable pub push_in : Bool → List (List ℕ) → Option Order
+push_in atomic [] = None
+push_in atomic (word ∷ words) = option_map (PushItems atomic) (all_in item_in (word ∷ words))
 
 unfoldable pub verb_in : List ℕ → Option Verb
 verb_in word =
@@ -104,6 +104,7 @@ verb_in word =
     else if bytes_eq word (codes "detach") then Some verb.Detach
     else if bytes_eq word (codes "fetch") then Some verb.Fetch
     else if bytes_eq word (codes "push") then Some verb.Push
+    else if bytes_eq word (codes "push-atomic") then Some verb.PushAtomic
     else None
 
 abbrev pub order_by : Verb → List (List ℕ) → Option Order
@@ -117,7 +118,8 @@ order_by verb.Head words = head_in words
 order_by verb.Load words = load_in words
 order_by verb.Detach words = detach_in words
 order_by verb.Fetch words = fetch_in words
-order_by verb.Push words = push_in words
+order_by verb.Push words = push_in false words
+order_by verb.PushAtomic words = push_in true words
 
 unfoldable pub order_in : List ℕ → List (List ℕ) → Option Order
 order_in word others = do

@@ -52,6 +52,10 @@ abbrev pub updated_words : List ℕ → Option Reason → List ℕ
 updated_words name None = codes "ok " ++ name
 updated_words name (Some reason) = (codes "ng " ++ name) ++ reason_words reason
 
+-- no ref of an atomic push was set: why the first was not that has a cause of its own
+abbrev pub atomic_words : List ℕ → Reason → List ℕ
+atomic_words name reason = codes "atomic " ++ updated_words name (Some reason)
+
 abbrev pub deed_words : Deed → List ℕ
 deed_words deed.Stored = codes "done"
 deed_words (deed.Made id) = codes "done"
@@ -61,6 +65,8 @@ deed_words (deed.Opened slot) = codes "slot " ++ decimal slot
 deed_words (deed.Passed n) = codes "checked " ++ decimal n
 deed_words deed.Migrated = codes "migrated"
 deed_words (deed.Updated name found) = updated_words name.items found
+deed_words (deed.Atomic n) = codes "atomic ok " ++ decimal n
+deed_words (deed.AtomicRefused name reason) = atomic_words name.items reason
 deed_words (deed.Moved moved left) = moved_words moved
 deed_words (deed.Reported moved refused) = moved_words moved ++ refused_words refused.items
 
@@ -85,7 +91,7 @@ AreLines letters (a ∷ answers) text = (words others : List ℕ) × AreWords le
 
 -- ---- a text that grows
 
--- the line of an answer stands behind the old text
+-- the line of an answer stands after the old text
 abbrev pub AddsLine : List Letter → Answer → List ℕ → List ℕ → Type 0
 AddsLine letters a old new = (words : List ℕ) × AreWords letters a words × (new ≡ old ++ (words ++ 10 ∷ []))
 

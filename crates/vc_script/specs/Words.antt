@@ -72,7 +72,7 @@ name_in text = if is_utf8 text && is_ref_name text then Some text else None
 unfoldable pub branch_in : List ℕ → Option RefName
 branch_in word = name_in (codes "refs/heads/" ++ word)
 
--- what stands before the last such byte, and what stands behind it
+-- what stands before the last such byte, and what stands after it
 abbrev pub cut_at : ℕ → ℕ → List ℕ → Option (List ℕ × List ℕ) → Option (List ℕ × List ℕ)
 cut_at byte b bs (Some parts) = Some (b ∷ parts.0, parts.1)
 cut_at byte b bs None = if b == byte then Some ([], bs) else None

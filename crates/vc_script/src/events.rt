@@ -167,7 +167,7 @@ fn asked_in(alloc: Global, party: Party, words: &[&[u8]]) -> Result<Option<Event
     Ok(found)
 }
 
-// What the words behind the name of a node tell, in a world of so many clones.
+// What the words after the name of a node tell, in a world of so many clones.
 #[tactic(auto, unfolding(crate::specs::Lines::node_event))]
 fn node_event(
     alloc: Global,

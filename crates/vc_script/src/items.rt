@@ -8,7 +8,7 @@ use std::alloc::{AllocError, Global};
 use vc_events::NamedItem;
 use vc_refname::RefName;
 
-// What stands before the last colon, and what stands behind it.
+// What stands before the last colon, and what stands after it.
 fn cut_last(word: &[u8]) -> Option<(&[u8], &[u8])>
     ensures { option_map (λ parts. (parts.0.now, parts.1.now)) result ≡ cut_last 58 word.now }
 {

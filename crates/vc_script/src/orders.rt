@@ -1,4 +1,4 @@
-//! What a clone is told to do: a verb, and the words behind it.
+//! What a clone is told to do: a verb, and the words after it.
 ghost use Rattle.std.specs.Prelude.{◌≡◌, map, option_map, IfOk, IfSome};
 ghost use Rattle.vc_events.specs.Events.{bytes_in, IsInOrder, order_of};
 ghost use Rattle.vc_script.specs.Lines.{add_in, branch_at_in, commit_in, decoded_in, delete_in, detach_in, fetch_in, head_in, load_in, order_by, order_in, push_in, unstage_in, verb_in, write_in};
@@ -25,6 +25,7 @@ pub(crate) enum Verb {
     Detach,
     Fetch,
     Push,
+    PushAtomic,
 }
 
 // Who commits in a script, and who is the author.
@@ -66,6 +67,9 @@ fn verb_in(word: &[u8]) -> Option<Verb>
     }
     if word == b"push".as_slice() {
         return Some(Verb::Push);
+    }
+    if word == b"push-atomic".as_slice() {
+        return Some(Verb::PushAtomic);
     }
     None
 }
@@ -232,8 +236,8 @@ fn fetch_in(words: &[&[u8]]) -> Option<Order>
 }
 
 #[tactic(auto, unfolding(crate::specs::Lines::push_in))]
-fn push_in(alloc: Global, words: &[&[u8]]) -> Result<Option<Order>, AllocError>
-    ensures order { IfOk result (λ found. option_map order_of found ≡ push_in (texts words.now)) }
+fn push_in(alloc: Global, atomic: bool, words: &[&[u8]]) -> Result<Option<Order>, AllocError>
+    ensures order { IfOk result (λ found. option_map order_of found ≡ push_in atomic (texts words.now)) }
     ensures in_order { IfOk result (λ found. IfSome found IsInOrder) }
 {
     if words.is_empty() {
@@ -242,10 +246,10 @@ fn push_in(alloc: Global, words: &[&[u8]]) -> Result<Option<Order>, AllocError>
     let Some(items) = items_in(alloc, words)? else {
         return Ok(None);
     };
-    Ok(Some(Order::Push(items)))
+    Ok(Some(Order::Push(atomic, items)))
 }
 
-// What a verb tells with the words behind it.
+// What a verb tells with the words after it.
 fn order_by(alloc: Global, verb: Verb, words: &[&[u8]]) -> Result<Option<Order>, AllocError>
     ensures order { IfOk result (λ found. option_map order_of found ≡ order_by verb (texts words.now)) }
     ensures in_order { IfOk result (λ found. IfSome found IsInOrder) }
@@ -261,11 +265,12 @@ fn order_by(alloc: Global, verb: Verb, words: &[&[u8]]) -> Result<Option<Order>,
         Verb::Load => load_in(alloc, words),
         Verb::Detach => detach_in(alloc, words),
         Verb::Fetch => Ok(fetch_in(words)),
-        Verb::Push => push_in(alloc, words),
+        Verb::Push => push_in(alloc, false, words),
+        Verb::PushAtomic => push_in(alloc, true, words),
     }
 }
 
-/// What a clone is told by the verb and the words behind it.
+/// What a clone is told by the verb and the words after it.
 #[tactic(auto, unfolding(crate::specs::Lines::order_in))]
 pub(crate) fn order_in(
     alloc: Global,

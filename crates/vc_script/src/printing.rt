@@ -6,7 +6,7 @@ ghost use Rattle.vc_message.specs.AnyView.{message_text};
 ghost use Rattle.vc_pkt.specs.Message.{IsSpelledBy};
 ghost use Rattle.vc_pkt.specs.ObjectStreamView.{carried};
 ghost use Rattle.vc_push.specs.PushView.{carried_view};
-ghost use Rattle.vc_script.specs.Printing.{AddsFirst, AddsLine, AddsLines, AreWords, carried_words, count_words, deed_words, fault_words, letter_bytes, objects_words, moved_words, reason_words, refused_words, updated_words};
+ghost use Rattle.vc_script.specs.Printing.{AddsFirst, AddsLine, AddsLines, AreWords, atomic_words, carried_words, count_words, deed_words, fault_words, letter_bytes, objects_words, moved_words, reason_words, refused_words, updated_words};
 
 use std::alloc::{AllocError, Global};
 use vc_events::{Answer, Deed, Letter};
@@ -17,7 +17,7 @@ use vc_push::Reason;
 
 // ---- words
 
-// The words, and the digits of the number behind them.
+// The words, and the digits of the number after them.
 fn numbered(alloc: Global, words: &[u8], number: u64) -> Result<Vec<u8>, AllocError>
     ensures { IfOk result (λ line. line.items ≡ words.now ++ decimal number) }
 {
@@ -27,7 +27,7 @@ fn numbered(alloc: Global, words: &[u8], number: u64) -> Result<Vec<u8>, AllocEr
     Ok(line)
 }
 
-// The words, and these bytes behind them.
+// The words, and these bytes after them.
 fn joined(alloc: Global, words: &[u8], others: &[u8]) -> Result<Vec<u8>, AllocError>
     ensures { IfOk result (λ line. line.items ≡ words.now ++ others.now) }
 {
@@ -38,7 +38,7 @@ fn joined(alloc: Global, words: &[u8], others: &[u8]) -> Result<Vec<u8>, AllocEr
 
 // ---- what a node did
 
-// Why a ref was not set, behind its name.
+// Why a ref was not set, after its name.
 fn reason_words(alloc: Global, reason: Reason) -> Result<Vec<u8>, AllocError>
     ensures { IfOk result (λ line. line.items ≡ reason_words reason) }
 {
@@ -64,6 +64,15 @@ fn updated_words(alloc: Global, name: &[u8], found: Option<Reason>) -> Result<Ve
         None => joined(alloc, b"ok ", name),
         Some(reason) => refusal_words(alloc, name, reason),
     }
+}
+
+// No ref of an atomic push was set, and why.
+fn atomic_words(alloc: Global, name: &[u8], reason: Reason) -> Result<Vec<u8>, AllocError>
+    ensures { IfOk result (λ line. line.items ≡ atomic_words name.now reason) }
+{
+    let refusal = refusal_words(alloc, name, reason)?;
+    let line = joined(alloc, b"atomic ", &refusal)?;
+    Ok(line)
 }
 
 // The numbers that refused commands.
@@ -109,6 +118,8 @@ fn deed_words(alloc: Global, done: &Deed) -> Result<Vec<u8>, AllocError>
         Deed::Passed(count) => numbered(alloc, b"checked ", *count),
         Deed::Migrated => Vec::from_slice(alloc, b"migrated"),
         Deed::Updated(name, found) => updated_words(alloc, name, *found),
+        Deed::Atomic(count) => numbered(alloc, b"atomic ok ", *count),
+        Deed::AtomicRefused(name, reason) => atomic_words(alloc, name, *reason),
         Deed::Moved(count, _) => moved_words(alloc, *count),
         Deed::Reported(count, numbers) => reported_words(alloc, *count, numbers),
     }
@@ -225,7 +236,7 @@ fn add_line(
     Ok(())
 }
 
-/// Adds a line for each answer behind the text. `letters` are the messages that were sent, by their numbers. Where memory is short,
+/// Adds a line for each answer after the text. `letters` are the messages that were sent, by their numbers. Where memory is short,
 /// the text has the lines of the first answers, and nothing else.
 pub fn add_lines(
     alloc: Global,

@@ -112,7 +112,7 @@ values_fail r (t ∷ texts) text rest ids k are is = elim are [
         let tail : xs ≡ map bytes_of_id ids = cc in
         inr (x, Err k, denotes, more ids (subst (λ (xs : List Id). AreValues git git_rules r (map bytes_in texts) (Ok xs)) tail others), refl)
 
--- a list is its front, an element, and what is behind it
+-- a list is its front, an element, and what is after it
 split_at : {X : Type 0} (xs : List X) (i : ℕ) (d : X) → i < length xs → xs ≡ take i xs ++ get_or xs i d ∷ drop (suc i) xs
 split_at [] i d below = let f : ⊥ = omega (arith, below) in absurd f
 split_at (x ∷ xs) zero d below = refl
@@ -682,9 +682,9 @@ module _ {F : Type 0} (content : F → FileMap) (can_fail : F → Type 0) (left 
 
   -- ---- a push with the zero id
 
-  pub zero_push : (old new : Held F) (items : List PushItem) (k : ℕ) → old.is_up ≡ true → new ≡ old → HasZero items → (((256 < length items) × (k ≡ 84)) ⊎ ((length items ≤ 256) × (k ≡ 40)))
-      → CloneCalled Sees (IsOnly (Command (StartPush false (machine_items items)))) (Shows (Err (ended.Refused k))) old new
-  zero_push old new items k up same has which = record {
+  pub zero_push : (old new : Held F) (atomic : Bool) (items : List PushItem) (k : ℕ) → old.is_up ≡ true → new ≡ old → HasZero items → (((256 < length items) × (k ≡ 84)) ⊎ ((length items ≤ 256) × (k ≡ 40)))
+      → CloneCalled Sees (IsOnly (Command (StartPush atomic (machine_items items)))) (Shows (Err (ended.Refused k))) old new
+  zero_push old new atomic items k up same has which = record {
     each = λ frail n held. (
       n,
       Declined k,
@@ -692,12 +692,12 @@ module _ {F : Type 0} (content : F → FileMap) (can_fail : F → Type 0) (left 
       subst (λ (v : Held F). HoldsClone content can_fail frail v n) (sym same) held,
       record { answer = refl; sent = refl },
       λ sound zeros.
-          let z = zero_refused n items sound zeros has in
-          let refuses : Refuses git git_rules n.repository (StartPush false (machine_items items)) k = elim which [
-            | inl many ↦ subst (λ (k : ℕ). Refuses git git_rules n.repository (StartPush false (machine_items items)) k) (sym many.1) (z.0 many.0)
-            | inr few ↦ subst (λ (k : ℕ). Refuses git git_rules n.repository (StartPush false (machine_items items)) k) (sym few.1) (z.1 few.0)
+          let z = zero_refused n atomic items sound zeros has in
+          let refuses : Refuses git git_rules n.repository (StartPush atomic (machine_items items)) k = elim which [
+            | inl many ↦ subst (λ (k : ℕ). Refuses git git_rules n.repository (StartPush atomic (machine_items items)) k) (sym many.1) (z.0 many.0)
+            | inr few ↦ subst (λ (k : ℕ). Refuses git git_rules n.repository (StartPush atomic (machine_items items)) k) (sym few.1) (z.1 few.0)
           ] in
-          (Command (StartPush false (machine_items items)), refl, refused held.awaited k (live_some frail old n up held) refuses refl refl refl, spends_nothing old new frail (Command (StartPush false (machine_items items))) n (Declined k) (λ h. absurd (cc)) (ap (λ (v : Held F). v.files) same)),
+          (Command (StartPush atomic (machine_items items)), refl, refused held.awaited k (live_some frail old n up held) refuses refl refl refl, spends_nothing old new frail (Command (StartPush atomic (machine_items items))) n (Declined k) (λ h. absurd (cc)) (ap (λ (v : Held F). v.files) same)),
     );
   }
 

@@ -1,5 +1,5 @@
 -- The items of a push.
-use Rattle.std.proofs.Common.{◌≡◌, ◌≢◌, ◌<◌, ◌≤◌, ◌+◌, ℕ, zero, suc, List, ◌∷◌, ◌++◌, false, Option, Some, None, Result, Ok, Err, Vec, Global, map, take, get_or, length, option_map, inl, inr, refl, sym, ap, ◌∙◌, subst, arith, []}
+use Rattle.std.proofs.Common.{◌≡◌, ◌≢◌, ◌<◌, ◌≤◌, ◌+◌, ℕ, zero, suc, Bool, List, ◌∷◌, ◌++◌, Option, Some, None, Result, Ok, Err, Vec, Global, map, take, get_or, length, option_map, inl, inr, refl, sym, ap, ◌∙◌, subst, arith, []}
 use Rattle.std.proofs.lemmas.List.{take_more}
 use Rattle.std.proofs.lemmas.List.Elements.{Contains-append_cases, Contains-get_or}
 use Rattle.std.specs.Prelude.{Contains}
@@ -136,9 +136,9 @@ machine_length [] = refl
 machine_length (i ∷ items) = ap (λ n. suc n) (machine_length items)
 
 -- such a push is refused by the machine, too
-pub zero_refused : (n : CloneNode) (items : List PushItem) → IsSound git n.repository → HasNoZero n.repository → HasZero items
-    → ((256 < length items) → Refuses git git_rules n.repository (StartPush false (machine_items items)) 84) × ((length items ≤ 256) → Refuses git git_rules n.repository (StartPush false (machine_items items)) 40)
-zero_refused n items sound zeros has = (
+pub zero_refused : (n : CloneNode) (atomic : Bool) (items : List PushItem) → IsSound git n.repository → HasNoZero n.repository → HasZero items
+    → ((256 < length items) → Refuses git git_rules n.repository (StartPush atomic (machine_items items)) 84) × ((length items ≤ 256) → Refuses git git_rules n.repository (StartPush atomic (machine_items items)) 40)
+zero_refused n atomic items sound zeros has = (
   (λ many. inl ((λ few. let count = machine_length items in let f : ⊥ = omega (arith, many, few, count) in absurd f), refl)),
   (λ few. inr ((let count = machine_length items in omega (arith, few, count)), inl ((λ closed. not_closed (closed zero_name (zero_pushed items has))), refl))),
 )

@@ -1,7 +1,7 @@
 -- A world in memory: the machine's nodes that its nodes are, and what is played in it from its beginning.
 use Rattle.std.specs.Prelude.{◌≡◌, ℕ, false, List, [], if◌then◌else◌, take, vec_len}
 use Rattle.vc_events.specs.Calls.{Seen}
-use Rattle.vc_events.specs.Running.{AreApart, IsGuarded, IsLengthened}
+use Rattle.vc_events.specs.Running.{AreApart, IsLengthened}
 use Rattle.vc_events.specs.World.{HoldsWorld}
 use Rattle.vc_events.specs.declared.answers.Answer.{Answer as WorldAnswer}
 use Rattle.vc_events.specs.declared.events.Event.{Event}
@@ -14,7 +14,7 @@ use Rattle.vc_model.specs.Clone.{CloneNode}
 use Rattle.vc_model.specs.Exact.{IsUnfused, Shadows}
 use Rattle.vc_model.specs.ExactWorld.{ExactHistory, ExactRun, FusedWorld, NothingForgedExactly, fused_after}
 use Rattle.vc_model.specs.Run.{History}
-use Rattle.vc_model.specs.Safe.{IsSafe}
+use Rattle.vc_model.specs.Safe.{IsGuarded, IsSafe}
 use Rattle.vc_model.specs.Shared.{SharedNode}
 use Rattle.vc_model.specs.World.{IsNew}
 use Rattle.vc_rules.specs.Git.{git}
@@ -49,4 +49,4 @@ pub record PlaysSafely (n : ℕ) (es : List Event) (said : List WorldAnswer) (wo
   pub lengthened : IsLengthened start [] es said history
   pub held : HoldsWorld memory_shared memory_clone world (fused_after start history)
   pub safe : AreApart start history → ExactRun git message_wire start history
-      × ((p : History) × Shadows git message_wire start history p × IsGuarded start p × (NothingForgedExactly git message_wire history → IsSafe git start.world p))
+      × ((p : History) × Shadows git message_wire start history p × IsGuarded git start.world p × (NothingForgedExactly git message_wire history → IsSafe git start.world p))

@@ -80,7 +80,7 @@ ArePushed named items r = AreItems git git_rules r (map item_of named) (Ok (mach
 abbrev pub AreNotPushed : List NamedItem → Repository → ℕ → Type 0
 AreNotPushed named r k = AreItems git git_rules r (map item_of named) (Err k)
 
--- one more value is found, and stands behind the others
+-- one more value is found, and stands after the others
 pub record IsOneMore {F : Type 0} (content : F → FileMap) (can_fail : F → Type 0) (left : F → Option ℕ) (text : List ℕ) (before after : List ObjectId) (old new : Held F) : Type 0 where
   pub id : ObjectId
   pub behind : after ≡ before ++ id ∷ []

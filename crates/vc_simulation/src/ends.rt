@@ -89,6 +89,10 @@ pub(crate) fn stepped(called: Result<Stepped, SharedFault>) -> Result<Told, Ende
         Ok(Stepped::Checked(passed)) => Ok(Told::Did(Deed::Passed(passed))),
         Ok(Stepped::Migrated) => Ok(Told::Did(Deed::Migrated)),
         Ok(Stepped::Updated(name, found)) => Ok(Told::Did(Deed::Updated(name, found))),
+        Ok(Stepped::Atomic(refs)) => Ok(Told::Did(Deed::Atomic(refs))),
+        Ok(Stepped::AtomicRefused(name, reason)) => {
+            Ok(Told::Did(Deed::AtomicRefused(name, reason)))
+        }
         Ok(Stepped::Finished(bytes)) => Ok(Told::Sends(bytes)),
         Err(fault) => Err(shared_end(&fault)),
     }

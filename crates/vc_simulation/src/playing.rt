@@ -9,7 +9,7 @@ use std::alloc::Global;
 use vc_files::Fault;
 use vc_script::{ScriptFault, add_lines, read_script};
 
-/// Plays the script that the text is in a new world in memory, and puts a line for each answer behind the output. A text that is no
+/// Plays the script that the text is in a new world in memory, and puts a line for each answer after the output. A text that is no
 /// script is refused (114) before anything is done. Where memory is short the first of the answers are told, as many as were made
 /// and could be.
 pub fn run_script(alloc: Global, text: &[u8], output: &mut Vec<u8>) -> Result<(), ScriptFault>

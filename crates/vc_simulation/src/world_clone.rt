@@ -95,7 +95,7 @@ impl<F: Files> WorldClone<F> {
         clone_value(called)
     }
 
-    // One value more, behind the others.
+    // One value more, after the others.
     fn add_value(
         &mut self,
         alloc: Global,
@@ -194,7 +194,7 @@ impl<F: Files> WorldClone<F> {
         }
     }
 
-    // One item more, behind the others.
+    // One item more, after the others.
     fn add_item(
         &mut self,
         alloc: Global,
@@ -234,11 +234,11 @@ impl<F: Files> WorldClone<F> {
         Ok(items)
     }
 
-    // A push of items. One with the zero id, which no object has, is refused as any that is not all there.
-    fn start_push(&mut self, items: &[PushItem]) -> Result<Told, Ended>
+    // A push of items, which may be atomic. One with the zero id, which no object has, is refused as any that is not all there.
+    fn start_push(&mut self, atomic: bool, items: &[PushItem]) -> Result<Told, Ended>
         requires some { items.now ≢ [] }
         requires up { self.old.node.is_up ≡ true }
-        ensures answers { F.honest → Called F.content F.can_fail F.left (IsOnly (Command (StartPush false (machine_items items.now)))) (Shows result) self.old.node self.new.node }
+        ensures answers { F.honest → Called F.content F.can_fail F.left (IsOnly (Command (StartPush atomic (machine_items items.now)))) (Shows result) self.old.node self.new.node }
     {
         if has_zero(items) {
             return Err(Ended::Refused(if items.len() > MAX_COMMANDS {
@@ -247,17 +247,21 @@ impl<F: Files> WorldClone<F> {
                 MISSING
             }));
         }
+        if atomic {
+            let called = self.node.start_push_atomic(items);
+            return sent(called);
+        }
         let called = self.node.start_push(items);
         sent(called)
     }
 
-    fn push(&mut self, alloc: Global, named: &[NamedItem]) -> Result<Told, Ended>
+    fn push(&mut self, alloc: Global, atomic: bool, named: &[NamedItem]) -> Result<Told, Ended>
         requires some { named.now ≢ [] }
         requires up { self.old.node.is_up ≡ true }
-        ensures answers { F.honest → Called F.content F.can_fail F.left (Obeys (PushItems false (map item_of named.now))) (Shows result) self.old.node self.new.node }
+        ensures answers { F.honest → Called F.content F.can_fail F.left (Obeys (PushItems atomic (map item_of named.now))) (Shows result) self.old.node self.new.node }
     {
         match self.items(alloc, named) {
-            Ok(items) => self.start_push(&items),
+            Ok(items) => self.start_push(atomic, &items),
             Err(end) => Err(end),
         }
     }
@@ -385,7 +389,7 @@ impl<F: Files> CloneCalls for WorldClone<FusedFiles<F>> {
             Order::Detach(text) => self.detach(alloc, text),
             Order::Load(text) => self.load(alloc, text),
             Order::Fetch => self.fetch(),
-            Order::Push(named) => self.push(alloc, named),
+            Order::Push(atomic, named) => self.push(alloc, *atomic, named),
         }
     }
 

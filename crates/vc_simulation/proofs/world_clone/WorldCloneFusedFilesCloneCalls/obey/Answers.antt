@@ -1,4 +1,4 @@
-use Rattle.std.proofs.Common.{ℕ, List, false, map, Vec, Global, rules, refl, sym, ap, ◌∙◌}
+use Rattle.std.proofs.Common.{ℕ, List, map, Vec, Global, rules, refl, sym, ap, ◌∙◌}
 use Rattle.vc_events.specs.Events.{bytes_in, item_of, order_of}
 use Rattle.vc_events.specs.declared.events.NamedItem.{NamedItem}
 use Rattle.vc_model.specs.Order.Order.{BranchAt, CommitIndex, HeadAt, LoadIndex, PushItems, StageFile, StoreObject, UnstageFile}
@@ -43,4 +43,4 @@ pub returns-in-Fetch : goal.returns-in-Fetch
 returns-in-Fetch g c = record { answers = λ honest. lift_clone (λ frail. IsBelow g.F.Files.can_fail g.F.Files.left frail) (λ s. s.node) _ _ _ _ _ (other_order (λ s. g.F.Files.content s.files) (FusedCanFail g.F.Files.can_fail g.F.Files.left) (fused_left g.F.Files.left) _ _ _ _ _ (ap order_of c.in-Fetch.is ∙ refl) (c.fetch.ensures.answers honest)) }
 
 pub returns-in-Push : goal.returns-in-Push
-returns-in-Push g c = record { answers = λ honest. lift_clone (λ frail. IsBelow g.F.Files.can_fail g.F.Files.left frail) (λ s. s.node) _ _ _ _ _ (other_order (λ s. g.F.Files.content s.files) (FusedCanFail g.F.Files.can_fail g.F.Files.left) (fused_left g.F.Files.left) _ _ _ _ _ (ap order_of c.in-Push.is ∙ ap (λ (b : List NamedItem). PushItems false (map item_of b)) (sym c.deref-in-Push.ensures.value)) (c.push.ensures.answers honest)) }
+returns-in-Push g c = record { answers = λ honest. lift_clone (λ frail. IsBelow g.F.Files.can_fail g.F.Files.left frail) (λ s. s.node) _ _ _ _ _ (other_order (λ s. g.F.Files.content s.files) (FusedCanFail g.F.Files.can_fail g.F.Files.left) (fused_left g.F.Files.left) _ _ _ _ _ (ap order_of c.in-Push.is ∙ ap (λ (b : List NamedItem). PushItems c.in-Push.atomic (map item_of b)) (sym c.deref-in-Push.ensures.value)) (c.push.ensures.answers honest)) }
