@@ -63,6 +63,8 @@ pub enum RemoteTask {
     /// Its items are told by [`list_of`].
     Push {
         port: u16,
+        /// Whether all refs are to be set, or none.
+        atomic: bool,
     },
 }
 

@@ -46,7 +46,9 @@ enum Given {
     Said,
     // By an option that has to be there, as a number from 1 to this.
     Number(u64),
-    // By an option that takes no value, or by this letter.
+    // By an option that takes no value.
+    Switch,
+    // The same, or by this letter.
     Flag(char),
     // As a word that has to be there.
     One,
@@ -271,7 +273,7 @@ const FORMS: [Form; 20] = [
                 id: "parent",
                 value: "rev",
                 given: Given::Any,
-                help: "Extra parents, behind HEAD's commit",
+                help: "Extra parents, after HEAD's commit",
             },
         ],
     },
@@ -329,10 +331,16 @@ const FORMS: [Form; 20] = [
     Form {
         name: "push",
         about: "Ask a served store to change refs, and print for each whether it did",
-        after: "Prints \"ok\" and the ref, or \"ng\", the ref and why not; status 1 if one is \"ng\". A branch is changed only from the value\nthat the last fetch or push saw: after \"ng\" fetch, commit or merge on what came, and push again.\n\nExample: vcs push --port 7000 main, or vcs push --port 7000 main~1:refs/heads/topic :refs/heads/old",
+        after: "Prints \"ok\" and the ref, or \"ng\", the ref and why not; status 1 if one is \"ng\". A branch is changed only from the value\nthat the last fetch or push saw: after \"ng\" fetch, commit or merge on what came, and push again.\nWith --atomic all refs are changed or none. If one can't be, each is \"ng\" and none was changed; \"atomic push failure\" is said\nof those that nothing else was against.\n\nExample: vcs push --port 7000 main, or vcs push --port 7000 main~1:refs/heads/topic, or\nvcs push --port 7000 --atomic main main:refs/tags/v1",
         arguments: &[
             STORE,
             PORT,
+            Argument {
+                id: "atomic",
+                value: "",
+                given: Given::Switch,
+                help: "Change all of the refs, or none of them",
+            },
             Argument {
                 id: "item",
                 value: "item",
@@ -344,7 +352,7 @@ const FORMS: [Form; 20] = [
     Form {
         name: "world",
         about: "Play a script of a world of nodes in memory, and print what each event is answered",
-        after: "The first line of the script is \"world\" and how many clones there are, 1 to 16; each other line is one event. A clone c0\nwrites, adds, commits, fetches and pushes; \"deliver k\" brings the message of that number to whom it is for; \"step s\" is the\nnext step of the push in that slot of the shared node; \"stop c0 n\" lets n more writes pass at a node, until \"restart c0\";\n\"forge shared c0\" and hex digits bring bytes to a node as from the other end. There is no store, and nothing is left.\n\nExample: printf 'world 1\\nc0 add f x\\nc0 commit m\\nc0 push main\\ndeliver 0\\n' >script, then vcs world script",
+        after: "The first line of the script is \"world\" and how many clones there are, 1 to 16; each other line is one event. A clone c0\nwrites, adds, commits, fetches and pushes, by \"push-atomic\" all refs or none; \"deliver k\" brings the message of that number\nto whom it is for; \"step s\" is the next step of the push in that slot of the shared node; \"stop c0 n\" lets n more writes\npass at a node, until \"restart c0\"; \"forge shared c0\" and hex digits bring bytes to a node as from the other end. There is no\nstore, and nothing is left.\n\nExample: printf 'world 1\\nc0 add f x\\nc0 commit m\\nc0 push main\\ndeliver 0\\n' >script, then vcs world script",
         arguments: &[Argument {
             id: "file",
             value: "file",
@@ -400,6 +408,7 @@ fn arg_of<'a>(alloc: Global, argument: &Argument) -> Arg<'a> {
             .value_name(argument.value)
             .required(true)
             .value_parser(ValueParser::Unsigned(1, most)),
+        Given::Switch => arg.long(argument.id).action(ArgAction::SetTrue),
         Given::Flag(letter) => arg
             .long(argument.id)
             .short(letter)

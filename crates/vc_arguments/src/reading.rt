@@ -91,6 +91,7 @@ fn task_of<'a>(name: &str, words: &ArgMatches<'a>) -> Option<Task<'a>> {
         }),
         "push" => Task::Remote(RemoteTask::Push {
             port: words.get_one::<u16>("port")?,
+            atomic: words.get_flag("atomic"),
         }),
         "world" => Task::World {
             file: said(words, "file"),

@@ -239,7 +239,9 @@ where
             fetch(rt, store, port, output, faults)?;
             Ok(true)
         }
-        RemoteTask::Push { port } => push(rt, store, port, items, output, faults),
+        RemoteTask::Push { port, atomic } => {
+            push(rt, store, port, atomic, items, output, faults)
+        }
     }
 }
 

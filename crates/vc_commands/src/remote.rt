@@ -20,7 +20,7 @@ fn progress_of<E: Write>(faults: &mut Faults<E>) -> Progress<&mut E>
 }
 
 /// Fetches into the clone in this folder from the store that is served at a port, and prints how many refs moved. What could
-/// not be told on a terminal meanwhile is a fault behind the answer.
+/// not be told on a terminal meanwhile is a fault after the answer.
 pub fn fetch<R, O, E>(
     rt: &R,
     store: &str,
@@ -46,11 +46,13 @@ where
 }
 
 /// Pushes from the clone in this folder to the store that is served at a port, prints what became of each item, and tells
-/// whether all were done. What could not be told on a terminal meanwhile is a fault behind the answer.
+/// whether all were done. If the push is atomic, all were done or none was. What could not be told on a terminal meanwhile is a
+/// fault after the answer.
 pub fn push<R, O, E>(
     rt: &R,
     store: &str,
     port: u16,
+    atomic: bool,
     items: &[&str],
     output: &mut O,
     faults: &mut Faults<E>,
@@ -68,7 +70,7 @@ where
         return Ok(true);
     }
     let mut progress = progress_of(faults);
-    let report = match vc_remote::push(rt, lock, store, port, &items, &mut progress) {
+    let report = match vc_remote::push(rt, lock, store, port, atomic, &items, &mut progress) {
         Ok(report) => report,
         Err(fault) => return Err(failure_of(fault)),
     };

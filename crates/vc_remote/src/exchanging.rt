@@ -14,7 +14,7 @@ use vc_node::CloneNode;
 use vc_push::Report;
 use vc_sending::PushItem;
 use vc_transport::Progress;
-use vc_world::{exchange_fetch, exchange_push};
+use vc_world::{exchange_fetch, exchange_push, exchange_push_atomic};
 
 /// Fetches into the clone in this folder, whose lock is held, until its refs are the shared node's, all on one connection.
 /// Tells how many refs moved, and meanwhile how far a long message is.
@@ -38,13 +38,14 @@ where
     Ok(fetched?.moved)
 }
 
-/// Pushes from the clone in this folder, whose lock is held. Tells what the shared node reports of each item, and meanwhile how
-/// far a long message is.
+/// Pushes from the clone in this folder, whose lock is held; all refs are set or none if the push is atomic. Tells what the shared
+/// node reports of each item, and meanwhile how far a long message is.
 pub fn push<R, W>(
     rt: &R,
     lock: FolderLock<R>,
     store: &str,
     port: u16,
+    atomic: bool,
     items: &[PushItem],
     progress: &mut Progress<W>,
 ) -> Result<Report, RemoteFault>
@@ -57,7 +58,11 @@ where
     let mut clone = open_clone(rt, store)?;
     let folder = String::from_str(alloc, store)?;
     let mut server = Server::new(rt.clone()?, port, folder, lock, progress);
-    let pushed = exchange_push(alloc, &mut server, &mut clone, items);
+    let pushed = if atomic {
+        exchange_push_atomic(alloc, &mut server, &mut clone, items)
+    } else {
+        exchange_push(alloc, &mut server, &mut clone, items)
+    };
     settle(alloc, clone)?;
     Ok(pushed?)
 }
