@@ -2,8 +2,9 @@
 
 A clone pushes to a served store, or fetches from it, and one of the two processes is hindered at one of its calls that change something
 (files, locks, what is sent or printed). The other one has to end by itself. Then both stores have to hold what they held or what the
-exchange was to leave there, whole and complete; what the clone was told must be so; no branch may be tracked at a value that it never
-had; and a fetch and a push that nobody hinders must end as ever, with nothing removed by hand and nothing left in a quarantine.
+exchange was to leave there, whole and complete, and of an atomic push all refs or none; what the clone was told must be so; no branch may
+be tracked at a value that it never had; and a fetch and a push that nobody hinders must end as ever, with nothing removed by hand and
+nothing left in a quarantine.
 """
 import itertools
 import os
@@ -19,15 +20,21 @@ import tracing
 from leftovers import DONE, PROGRAM, faults_after, faults_of_looks, files_of, hardships, run, whole_faults
 from tracing import Hindrance, hindrances
 
-MOST = 40  # calls of one end that are hindered in one way
-PATIENCE = 60  # seconds after which the other end is taken to hang
+MOST = 40  # calls of one end that are hindered in one way, but of an atomic push each is
+EVERY = 1000  # more than there are
+PATIENCE = 300  # seconds after which the other end is taken to hang
 REFUSED, FAULT = hardships.REFUSED, hardships.FAULT
 TAG = "refs/tags/v1"
 PUSH = ("push", "main", "topic", f"main:{TAG}")
+ATOMIC = "--atomic"
+# Of its refs one has a file of its own over a packed value, one is packed alone, and two are new.
+ATOMIC_PUSH = ("push", ATOMIC, "main", "topic", "main:refs/heads/old", f"main:{TAG}")
 # What the clone does, and which end is hindered.
 EXCHANGES = {
     "push, the clone": (PUSH, "clone"),
     "push, the server": (PUSH, "shared"),
+    "atomic push, the clone": (ATOMIC_PUSH, "clone"),
+    "atomic push, the server": (ATOMIC_PUSH, "shared"),
     "fetch, the clone": (("fetch",), "clone"),
     "fetch, the server": (("fetch",), "shared"),
 }
@@ -111,19 +118,30 @@ def refs_of(files):
     return {path: held for path, held in files.items() if path.startswith("refs/")}
 
 
-def make(top, command):
+def pack(shared, is_main_over):
+    """Packs the refs of a store, with main, or with an earlier value of it under its own file."""
+    value = (shared.store / "refs/heads/main").read_text().strip()
+    if is_main_over:
+        shared.must("branch", "main", "old")
+    shared.must("pack-refs")
+    if is_main_over:
+        shared.must("branch", "main", value)
+
+
+def make(top, words):
     """A served store with packed refs, and a clone that has fetched from it; then one of them has more: what a push or a fetch brings."""
+    command = words[0]
     for end in ENDS:
         (top / end).mkdir(parents=True)
     shared, clone = hardships.Ground(top / "shared"), hardships.Site(top / "clone")
-    shared.must("pack-refs")
+    pack(shared, ATOMIC in words)
     clone.must("init")
     exchange(top, ("fetch",))
     clone.must("branch", "main", "origin/main")
     ahead = clone if command == "push" else shared
     ahead.change({"f": b"3\n", "deep/er/h": b"below\n"})
-    for words in (("add", "f"), ("add", "deep/er/h"), (*hardships.COMMIT, "two"), ("branch", "topic", "main~1")):
-        ahead.must(*words)
+    for one in (("add", "f"), ("add", "deep/er/h"), (*hardships.COMMIT, "two"), ("branch", "topic", "main~1")):
+        ahead.must(*one)
     if command == "fetch":
         shared.change({f".git/{TAG}": (shared.store / "refs/heads/main").read_bytes()})
         shared.must("pack-refs")
@@ -132,13 +150,13 @@ def make(top, command):
 def tasks_of(top, name, chance):
     """What is to be tried of an exchange, each with the stores before it and after it."""
     words, end = EXCHANGES[name]
-    make(top / "old", words[0])
+    make(top / "old", words)
     shutil.copytree(top / "old", top / "new", symlinks=True)
     whole = Hindrance("kill", None, only_changing=True)
     told = exchange(top / "new", words, end, whole)
     if [told[it][0] for it in ENDS] != [DONE, DONE]:
         raise Off(told)
-    return [(top, words, end, it) for it in hindrances(whole.calls, chance, MOST)]
+    return [(top, words, end, it) for it in hindrances(whole.calls, chance, EVERY if ATOMIC in words else MOST)]
 
 
 def faults_of_ends(told, end, hindrance):
@@ -168,6 +186,19 @@ def faults_of_told(told, old, new, now):
             yield f"{name} is {held!r}, which {branch} never was"
 
 
+def faults_of_parts(words, old, new, now):
+    """An atomic push of which some refs are set and others aren't."""
+    refs = refs_of(now["shared"])
+    if ATOMIC in words and refs not in (refs_of(old["shared"]), refs_of(new["shared"])):
+        yield f"some refs of an atomic push are set: {refs}"
+
+
+def may_be_refused(words):
+    """What may be told of a push that comes again, since its tag is there."""
+    others = [f"ng refs/heads/{name} atomic push failure" for name in ("main", "topic", "old")]
+    return {f"ng {TAG} already exists", *(others if ATOMIC in words else [])}
+
+
 def faults_afterwards(top, words, new):
     """What is wrong with what nobody hinders then: a fetch, what is left of the push, and both stores."""
     said = []
@@ -176,7 +207,7 @@ def faults_afterwards(top, words, new):
         if said[-1]["shared"][0] != DONE or said[-1]["clone"][0] not in (DONE, REFUSED):
             yield f"again {again}: {said[-1]}"
     refused = {line for it in said for line in it["clone"][1].decode("latin-1").splitlines() if line.startswith("ng ")}
-    if said[0]["clone"][0] != DONE or said[-1]["clone"][0] != DONE or refused - {f"ng {TAG} already exists"}:
+    if said[0]["clone"][0] != DONE or said[-1]["clone"][0] != DONE or refused - may_be_refused(words):
         yield f"again: {[it['clone'] for it in said]}"
     for end in ENDS:
         store = top / end / ".git"
@@ -201,7 +232,7 @@ def try_once(task):
         hindrance = Hindrance(way, number, only_changing=True)
         told = exchange(folder, words, end, hindrance)
         now = {it: kept(folder / it / ".git") for it in ENDS}
-        faults = [*faults_of_ends(told, end, hindrance), *faults_of_told(told, old, new, now)]
+        faults = [*faults_of_ends(told, end, hindrance), *faults_of_told(told, old, new, now), *faults_of_parts(words, old, new, now)]
         for it in ENDS:
             faults += [f"at the {it} end {fault}" for fault in faults_after(old[it], new[it], b"", now[it])]
         faults += itertools.chain.from_iterable(faults_of_looks(folder / it) for it in ENDS)

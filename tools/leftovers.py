@@ -13,7 +13,7 @@ BEGUN, DONE, PROGRAM = hardships.BEGUN, hardships.DONE, hardships.PROGRAM
 
 
 def run(folder, *words, text=None):
-    done = subprocess.run([PROGRAM, *words], cwd=folder, input=text, capture_output=True, timeout=60)
+    done = subprocess.run([PROGRAM, *words], cwd=folder, input=text, capture_output=True, timeout=300)
     return done.returncode, done.stdout + done.stderr
 
 

@@ -6,12 +6,13 @@ compared. Before each push its clone is asked which of the values are those that
 told from one that was set to what it was."""
 import world_model
 import world_scripts
-from world_model import HEADS, TRACKING
+from world_model import HEADS, PUSHES, TRACKING
 from world_values import Refused
 from world_wire import ZERO, written
 
 WRITES = [0, 0, 0, 1, 1, 1, 2, 2, 3, 3, 4, 5, 6, 8, 12, 20]  # that pass before a stop
-WEIGHTS = {"stop": 12, "forge": 6, "advance": 8}  # beside those of other scripts
+WEIGHTS = {"stop": 12, "forge": 6, "advance": 8, "together": 4}  # beside those of other scripts
+MOST_WRITES = 6  # that pass in the update of an atomic push which is stopped
 FEW = 4  # items of a push that are asked for
 
 
@@ -27,6 +28,8 @@ class World(world_model.World):
         maps = [(vars(node)[name], before[name]) for name in ("objects", "refs")]
         changes = sum(new.get(key) != old.get(key) for new, old in maps for key in {*new, *old})
         changes += sum(vars(node)[name] != before[name] for name in ("head", "index"))
+        if said.startswith(b"atomic ok "):
+            changes = min(changes, 1)
         if changes > node.left[0]:
             del self.messages[sent:]
             vars(node).update(before, is_down=True)
@@ -59,7 +62,7 @@ class Script(world_scripts.Script):
         super().one()
 
     def order(self, number, verb, *words):
-        if verb == b"push" and len(words) <= FEW:
+        if verb in PUSHES and len(words) <= FEW:
             for item in words:
                 value, colon, name = item.rpartition(b":")
                 value, name = (value, name) if colon else (HEADS + item, HEADS + item)
@@ -87,19 +90,41 @@ class Script(world_scripts.Script):
         self.push_whole(number, name)
 
     def one_whole_push(self, number):
-        self.push_whole(number, *[self.item(self.world.clones[number]) for _ in range(self.chance.choice([1, 1, 2]))])
+        self.push_whole(number, *[self.item(self.world.clones[number]) for _ in range(self.chance.choice([1, 1, 2, 3]))])
+
+    def one_together(self, number):
+        """An atomic push of a branch that goes on, of a new one and of a new tag, and a stop somewhere in its update."""
+        new = b"new-%d" % len(self.lines)
+        self.one_whole_fetch(number)
+        self.order(number, b"head", b"main")
+        if TRACKING + b"main" in self.world.clones[number].refs:
+            self.order(number, b"branch", b"main", TRACKING + b"main")
+        self.order(number, b"commit", self.chance.choice(world_scripts.WORDS))
+        slot = self.open_push(number, PUSHES[1], b"main", b"main:refs/heads/" + new, b"main:refs/tags/" + new)
+        if slot is not None:
+            self.say(b"step", slot)
+            self.say(b"step", slot)
+            self.say(b"stop", b"shared", b"%d" % self.chance.randrange(MOST_WRITES))
+            self.stopped.setdefault(b"shared", self.chance.randrange(1, 6))
+            self.end_push(slot)
 
     def push_whole(self, number, *items):
         """A push from its start to its end, or to a fault."""
-        answer = self.order(number, b"push", *items)
-        if not answer.startswith(b"sent "):
-            return
-        opened = self.say(b"deliver", answer.split()[1])
-        if not opened.startswith(b"slot "):
-            return
-        answer = self.say(b"step", opened.split()[1])
+        slot = self.open_push(number, self.push_verb(), *items)
+        if slot is not None:
+            self.end_push(slot)
+
+    def open_push(self, number, verb, *items):
+        """A push is sent and opened: its slot, or none."""
+        answer = self.order(number, verb, *items)
+        opened = self.say(b"deliver", answer.split()[1]) if answer.startswith(b"sent ") else b""
+        return opened.split()[1] if opened.startswith(b"slot ") else None
+
+    def end_push(self, slot):
+        """The steps of an open push to its end, or to a fault."""
+        answer = self.say(b"step", slot)
         while not answer.startswith((b"sent ", b"refused ", b"fault ")):
-            answer = self.say(b"step", opened.split()[1])
+            answer = self.say(b"step", slot)
         if answer.startswith(b"sent "):
             self.say(b"deliver", answer.split()[1])
 
@@ -137,7 +162,7 @@ class Script(world_scripts.Script):
         if kind == "pack":
             return written(kind, (objects,))
         old = lambda to: self.world.shared.refs.get(to, ZERO) if self.odds(0.7) else pick([ZERO, it()])
-        return written(kind, ([(old(to), it(), to) for to in dict.fromkeys(name() for _ in range(pick([1, 1, 2])))], objects))
+        return written(kind, ([(old(to), it(), to) for to in dict.fromkeys(name() for _ in range(pick([1, 1, 2])))], objects, self.odds(0.3)))
 
 
 def script(chance):

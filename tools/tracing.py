@@ -25,7 +25,7 @@ ROOMLESS = {"sendto", "sendmsg", "flock", "rmdir", "unlink", "unlinkat", "chmod"
 WAYS = ("kill", "EIO", "ENOSPC")
 MOST = 60  # calls of one command that are hindered in one way
 MOST_OTHERS = 10  # of those that change nothing
-PATIENCE = 60  # seconds after which a process that is followed is taken to hang
+PATIENCE = 300  # seconds after which a process that is followed is taken to hang
 
 
 class SystemCall(ctypes.Structure):

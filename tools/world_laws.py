@@ -4,7 +4,8 @@ A world is followed line by line: which messages were sent and to whom, which pu
 No object and no ref is known here, so of most answers it is judged whether they may come at all, and not whether they are right."""
 from collections import Counter
 
-from world_model import HEADS, SLOTS, TRACKING
+import world_wire
+from world_model import HEADS, PUSHES, SLOTS, TRACKING
 
 DEVICE, MEMORY = b"fault device", b"fault memory"
 DONE, DOWN, NO_MESSAGE, NO_SLOT, NOTHING = b"done", b"refused 112", b"refused 113", b"refused 111", b"refused 51"
@@ -20,33 +21,53 @@ def insist(holds, text):
 
 
 def number_in(answer, word):
-    """The number behind the word that an answer begins with."""
+    """The number after the word that an answer begins with."""
     words = answer.split(b" ")
     insist(words[0] == word and len(words) > 1 and words[1].isdigit(), f"`{word.decode()}` is wanted, and not {answer!r}")
     return int(words[1])
 
 
 class Push:
-    """An open push: the clone that it is from, the names of its commands if they are known, with whether the value is another one, and how
-    far it is."""
+    """An open push: the clone that it is from, the names of its commands if they are known, with whether the value is another one, how many
+    commands it has if it is atomic, and how far it is."""
 
-    def __init__(self, clone, items):
-        self.clone, self.items, self.stage, self.left = clone, items, "opened", 0
+    def __init__(self, clone, items, commands):
+        self.clone, self.items, self.commands, self.stage, self.left = clone, items, commands, "opened", 0
 
     def step(self, answer):
-        """What the next step is answered with. The ref that it sets, if it sets one."""
+        """What the next step is answered with. The refs that it sets."""
         if self.stage == "opened":
             self.left, self.stage = number_in(answer, b"checked"), "checked"
-            return None
+            insist(not self.commands or self.left in (0, self.commands), f"some of an atomic push pass: {answer!r}")
+            return []
         insist(self.left > 0, f"the push is at its end, and not {answer!r}")
         if self.stage == "checked":
             insist(answer == b"migrated", f"`migrated` is wanted, and not {answer!r}")
             self.stage = "migrated"
-            return None
+            return []
+        if self.commands:
+            return self.update_all(answer)
         self.left -= 1
         words = answer.split(b" ")
         insist(words[0] in (b"ok", b"ng") and (self.items is None or words[1] in self.items), f"an update is wanted, and not {answer!r}")
-        return words[1] if words[0] == b"ok" else None
+        return [words[1]] if words[0] == b"ok" else []
+
+    def update_all(self, answer):
+        """The refs of an atomic push are all set, or none."""
+        words = answer.split(b" ")
+        is_set, is_refused = answer == b"atomic ok %d" % self.left, words[:2] == [b"atomic", b"ng"] and words[2] in self.items
+        insist(is_set or is_refused, f"the update of an atomic push is wanted, and not {answer!r}")
+        self.left = 0
+        return [*self.items] if is_set else []
+
+
+def forged_items(digits):
+    """The names of an atomic push that nobody sent, of which a tag's value is another one than none, and how many commands it has. Of a
+    push that isn't atomic its answers tell the names."""
+    commands, _, is_atomic = world_wire.read(bytes.fromhex(digits.decode()))[1]
+    if not is_atomic:
+        return None, 0
+    return {name: None if name.startswith(HEADS) else True for _, _, name in commands}, len(commands)
 
 
 class World:
@@ -54,9 +75,12 @@ class World:
 
     def __init__(self, fault):
         self.fault = fault
-        self.sent = []  # of each message whom it goes to, the clone at its other end, and its items
+        # Of each message whom it goes to, the clone at its other end, its items, and how many commands an atomic push has, or that of which
+        # it is the report.
+        self.sent = []
         self.slots, self.down, self.stopped, self.deceived = {}, set(), set(), set()
         self.asked = {}  # what was answered, by clone and tracking ref
+        self.together = None  # refs that the last line may have changed, all of them or none
         self.met = Counter()
 
     def addressee(self, words):
@@ -67,7 +91,7 @@ class World:
 
     def tell(self, line, answer):
         """Judges the answer to a line. The refs that are set, each with whether its value is another one: yes, no, or none."""
-        words = line.split(b" ")
+        words, self.together = line.split(b" "), None
         if words[0] == b"restart" and answer == self.fault == MEMORY:
             return self.fail(words[1], words, answer)
         if words[0] in (b"stop", b"restart"):
@@ -80,11 +104,11 @@ class World:
             insist(answer == wanted, f"{wanted!r} is wanted, and not {answer!r}")
             return {}
         insist(answer not in (DOWN, NO_MESSAGE), f"{answer!r} has no cause")
-        if answer.startswith(b"fault "):
-            return self.fail(node, words, answer)
         if words[0] == b"forge" and not answer.startswith(b"refused "):
             self.met["forged messages taken"] += 1
-            self.deceived.add(node)
+            self.deceived.add(node)  # also if a fault ended it: some of it may be kept
+        if answer.startswith(b"fault "):
+            return self.fail(node, words, answer)
         return self.step(int(words[1]), answer) if words[0] == b"step" else self.take(node, words, answer)
 
     def restart(self, node):
@@ -104,12 +128,14 @@ class World:
             self.slots = {}
         if push is None or push.stage != "migrated" or not push.left:
             return {}
+        if push.commands and None not in push.items.values():
+            self.together = {name for name, is_other in push.items.items() if is_other}
         return dict.fromkeys(push.items, None) if push.items is not None else {None: None}
 
-    def send(self, answer, to, clone, items=None):
+    def send(self, answer, to, clone, items=None, commands=0):
         number = number_in(answer, b"sent")
         insist(number == len(self.sent), f"message {len(self.sent)} is wanted, and not {answer!r}")
-        self.sent.append((to, clone, items))
+        self.sent.append((to, clone, items, commands))
 
     def step(self, slot, answer):
         push = self.slots.get(slot)
@@ -117,19 +143,23 @@ class World:
             insist(answer == NO_SLOT, f"{NO_SLOT!r} is wanted, and not {answer!r}")
             return {}
         if push.stage != "opened" and not push.left:
-            self.send(answer, push.clone, push.clone)
+            self.send(answer, push.clone, push.clone, None, push.commands)
             del self.slots[slot]
             return {}
-        name = push.step(answer)
-        return {} if name is None else {name: True if push.items is None and not name.startswith(HEADS) else (push.items or {}).get(name)}
+        names = push.step(answer)
+        return {name: True if push.items is None and not name.startswith(HEADS) else (push.items or {}).get(name) for name in names}
 
     def take(self, node, words, answer):
         """Another line, which a node took."""
         if node != b"shared":
             if words[1:2] == [b"same"]:
                 self.asked[node, words[3]] = answer
+            if words[0] == b"deliver" and answer.startswith(b"moved "):
+                commands = self.sent[int(words[1])][3]
+                insist(not commands or answer.count(b" ng ") in (0, commands), f"some of an atomic push are refused: {answer!r}")
             if answer.startswith(b"sent "):
-                self.send(answer, b"shared", node, self.items(node, words[2:]) if words[1:2] == [b"push"] else None)
+                items = self.items(node, words[2:]) if words[1:2] and words[1] in PUSHES else None
+                self.send(answer, b"shared", node, items, len(words[2:]) if words[1:2] == [PUSHES[1]] else 0)
             return {}
         clone = words[2] if words[0] == b"forge" else self.sent[int(words[1])][1] if words[0] == b"deliver" else None
         if answer.startswith(b"sent "):
@@ -137,7 +167,7 @@ class World:
         if answer.startswith(b"slot "):
             free = min({*range(SLOTS)} - {*self.slots}, default=None)
             insist(answer == b"slot %s" % str(free).encode(), f"slot {free} is free, and not {answer!r}")
-            self.slots[free] = Push(clone, self.sent[int(words[1])][2] if words[0] == b"deliver" else None)
+            self.slots[free] = Push(clone, *(self.sent[int(words[1])][2:] if words[0] == b"deliver" else forged_items(words[3])))
         return {}
 
     def items(self, node, words):

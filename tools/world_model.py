@@ -3,8 +3,8 @@
 `answers(text)` gives what `vcs world` has to print for a script, a line for each event, or none where the text is no script. Nothing
 here is taken from the sources or specs of the crates.
 
-Of a stop it knows what the rules fix: an event fails if it changes more places than writes are left, and does not if it only looks, or
-if so many are left that they never run out. What an event that failed leaves is known if no write was left. An answer that isn't known,
+Of a stop it knows what the rules fix: an event fails if it changes more places than writes are left (the refs of an atomic push are one),
+and does not if it only looks, or if so many are left that they never run out. What an event that failed leaves is known if no write was left. An answer that isn't known,
 and each one after it, is none.
 """
 import copy
@@ -19,6 +19,7 @@ SLOTS = 8
 MOST_CLONES = 16
 MANY = 100_000  # more writes than an event of any script here makes
 HEADS, TAGS, TRACKING = b"refs/heads/", b"refs/tags/", b"refs/remotes/origin/"
+PUSHES = b"push", b"push-atomic"
 TO_SHARED, TO_CLONES = ("list", "want", "push"), ("advert", "pack", "report")
 
 
@@ -133,7 +134,7 @@ class Clone(Node):
         self.awaited = "advert"
         return "list", ()
 
-    def push(self, *items):
+    def push(self, items, is_atomic):
         if len(items) > MOST:
             raise Refused(84)
         for _, new in items:
@@ -142,7 +143,7 @@ class Clone(Node):
         commands = [(self.refs.get(followed(name), ZERO), new or ZERO, name) for name, new in items]
         tracked = [value for name, value in self.refs.items() if name.startswith(TRACKING)]
         carried = reached(self.objects, [new for _, new in items if new])[0] - reached(self.objects, tracked)[0]
-        return "push", (commands, {it: self.objects[it] for it in sorted(carried)})
+        return "push", (commands, {it: self.objects[it] for it in sorted(carried)}, is_atomic)
 
     def take_advert(self, refs):
         if self.awaited != "advert":
@@ -187,8 +188,8 @@ class Clone(Node):
 class Push:
     """An open push: its commands and the reasons that refuse them, and what it carries, or none where a body is at fault."""
 
-    def __init__(self, clone, commands, carried):
-        self.clone, self.commands, self.carried = clone, commands, carried or {}
+    def __init__(self, clone, commands, carried, is_atomic):
+        self.clone, self.commands, self.carried, self.is_atomic = clone, commands, carried or {}, is_atomic
         self.reasons, self.stage, self.next = [109 if carried is None else 0] * len(commands), "opened", 0
 
 
@@ -209,11 +210,11 @@ class Shared(Node):
         names = reached(self.objects, wants)[0] - reached(self.objects, ours.intersection(haves))[0]
         return "pack", ({it: self.objects[it] for it in sorted(names)},)
 
-    def open(self, clone, commands, carried):
+    def open(self, clone, commands, carried, is_atomic):
         if None not in self.slots:
             raise Refused(110)
         slot = self.slots.index(None)
-        self.slots[slot] = Push(clone, commands, carried)
+        self.slots[slot] = Push(clone, commands, carried, is_atomic)
         return b"slot %d" % slot
 
     def judge(self, push, old, new, name):
@@ -235,16 +236,33 @@ class Shared(Node):
             return 105
         return 0
 
-    def update(self, old, new, name):
-        """What refuses a command now, or none, and then its ref is set."""
-        if name.startswith(TAGS) and name in self.refs:
+    def update(self, refs, old, new, name):
+        """What refuses a command over these refs, or none, and then its ref is set there."""
+        if name.startswith(TAGS) and name in refs:
             return 106
-        if in_the_way(self.refs, name):
+        if in_the_way(refs, name):
             return 107
-        if self.refs.get(name, ZERO) != old:
+        if refs.get(name, ZERO) != old:
             return 108
-        self.refs[name] = new
+        refs[name] = new
         return 0
+
+    def update_all(self, push):
+        """The commands of an atomic push are judged in their order, each over the refs as those before it that passed would leave them, and a
+        branch that one before it names is stale. All refs are set, or none."""
+        refs, named = dict(self.refs), set()
+        for number, (old, new, name) in enumerate(push.commands):
+            is_again = name.startswith(HEADS) and name in named
+            push.reasons[number] = self.update(refs, None if is_again else old, new, name)
+            named.add(name)
+        push.next = len(push.commands)
+        refused = next((number for number, reason in enumerate(push.reasons) if reason), None)
+        if refused is None:
+            self.refs = refs
+            return b"atomic ok %d" % len(push.commands)
+        said = b"atomic ng %s %s" % (push.commands[refused][2], TEXTS[push.reasons[refused]])
+        push.reasons = [reason or 117 for reason in push.reasons]
+        return said
 
     def step(self, slot):
         """A step of the push in a slot: the answer, or the report and whom it goes to."""
@@ -253,6 +271,8 @@ class Shared(Node):
             raise Refused(111)
         if push.stage == "opened":
             push.reasons = [reason or self.judge(push, *command) for reason, command in zip(push.reasons, push.commands)]
+            if push.is_atomic and any(push.reasons):
+                push.reasons = [reason or 117 for reason in push.reasons]
             push.stage = "checked"
             return b"checked %d" % push.reasons.count(0)
         passed = [number for number, reason in enumerate(push.reasons) if not reason and number >= push.next]
@@ -260,9 +280,11 @@ class Shared(Node):
             self.objects = {**push.carried, **self.objects}
             push.stage = "migrated"
             return b"migrated"
+        if passed and push.is_atomic:
+            return self.update_all(push)
         if passed:
             number = passed[0]
-            push.reasons[number] = reason = self.update(*push.commands[number])
+            push.reasons[number] = reason = self.update(self.refs, *push.commands[number])
             push.next = number + 1
             name = push.commands[number][2]
             return b"ng %s %s" % (name, TEXTS[reason]) if reason else b"ok " + name
@@ -296,7 +318,8 @@ class World:
     def sent(self, clone, message):
         kind, content = message
         self.messages.append((clone, kind, content))
-        objects = b" objects %d" % len(content[-1]) if kind in ("push", "pack") else b""
+        place = {"push": 1, "pack": 0}.get(kind)
+        objects = b"" if place is None else b" objects %d" % len(content[place])
         return b"sent %d" % (len(self.messages) - 1) + objects
 
     def play(self, event):
@@ -329,6 +352,8 @@ class World:
         except Refused as refused:
             said = b"refused %d" % refused.number
         (least, most), changes = node.left, node.changes(before)
+        if said.startswith(b"atomic ok "):
+            changes = min(changes, 1)
         if changes > most:
             del self.messages[sent:]
             node.fail(before)
@@ -344,7 +369,7 @@ class World:
         if event[0] in ("deliver", "forge"):
             return self.kind_that_comes(event) in ("list", "want", "advert", "report") or said == b"refused 91"
         if event[0] == "step":
-            return said.startswith((b"checked ", b"ng ", b"refused "))
+            return said.startswith((b"checked ", b"ng ", b"atomic ng ", b"refused "))
         return event[0] in ("same", "push") or event[2:3] == ("fetch",) or said.startswith(b"refused ")
 
     def kind_that_comes(self, event):
@@ -400,10 +425,10 @@ class World:
         said = getattr(clone, order)(*words, *[clone.value(text) for text in texts])
         return self.sent(number, said) if said else b"done"
 
-    def play_push(self, number, items):
+    def play_push(self, number, items, is_atomic):
         clone = self.clones[number]
         values = [(name, None if text is None else clone.value(text)) for text, name in items]
-        return self.sent(number, clone.push(*values))
+        return self.sent(number, clone.push(values, is_atomic))
 
 
 def insist(holds):
@@ -480,8 +505,8 @@ def event_of(words, count):
     if verb == b"same" and len(rest) == 2:
         return "same", node, *rest
     insist(node is not None)
-    if verb == b"push" and rest:
-        return "push", node, [item_of(word) for word in rest]
+    if verb in PUSHES and rest:
+        return "push", node, [item_of(word) for word in rest], verb == PUSHES[1]
     return order_of(node, verb, rest)
 
 

@@ -7,7 +7,7 @@ before, whole, cut or with a byte changed. Now and then a stop is set, mostly on
 doesn't, the script ends soon. One script in twenty-five is none."""
 import world_model
 import world_wire
-from world_model import HEADS, TO_SHARED, World, event_of
+from world_model import HEADS, PUSHES, TO_SHARED, World, event_of
 from world_values import FILE, FOLDER, KINDS, OTHER_REPOSITORY, entry_key
 
 NAMES = [b"main"] * 8 + [b"side", b"side", b"a", b"a/b", b"a/b/c", b"v1", b"abc", b"dead", b"HEAD", b"origin/main", b"\xc3\xa9"]
@@ -29,6 +29,9 @@ WEIGHTS = {
     "write": 5, "fetch": 5, "push": 9, "pack": 2, "restart": 1, "same": 4, "whole_fetch": 4, "whole_push": 4, "forge": 4, "stop": 1,
 }
 LONGEST_FORGED = 4000
+# What may stand after the name in the first line of a push that nobody sent, and how many items one of very many has.
+SAID = [b"", b"atomic", b"atomic ", b" atomic", b"a atomic b", b"report-status-v2  atomic", b"atomics", b"an-atomic", b"atomic=1", b"ATOMIC", b"atomic\0", b"atomic\n"]
+MANY = [256, 257]
 
 
 class Script:
@@ -163,10 +166,13 @@ class Script:
         name = HEADS + pick(LONG) if self.odds(0.05) else pick(REFS)
         return b":" + name if self.odds(0.08) else self.text(node) + b":" + name
 
+    def push_verb(self):
+        return PUSHES[self.odds(0.3)]
+
     def one_push(self, number):
         node = self.world.clones[number]
-        count = 257 if self.odds(0.003) else self.chance.choice([1, 1, 1, 2, 3])
-        self.order(number, b"push", *[self.item(node) for _ in range(count)])
+        count = self.chance.choice(MANY) if self.odds(0.005) else self.chance.choice([1, 1, 1, 2, 3])
+        self.order(number, self.push_verb(), *[self.item(node) for _ in range(count)])
 
     def one_pack(self, number):
         self.say(self.chance.choice(self.nodes(number)), b"pack")
@@ -179,9 +185,12 @@ class Script:
         self.say(b"stop", self.chance.choice(self.nodes(number)), writes)
 
     def one_forge(self, number):
-        """A message comes once more, but as one that nobody sent: whole, cut, or with a byte that is another, more or less."""
+        """A message comes once more, but as one that nobody sent: whole, cut, or with a byte that is another, more or less; a push with other
+        words after its first name."""
         messages = [*self.world.messages, (number, "list", ())]
         clone, kind, content = self.chance.choice(messages[-3:] if self.odds(0.5) else messages)
+        if kind == "push" and self.odds(0.4):
+            content = *content, self.chance.choice(SAID)
         text = world_wire.written(kind, content)
         at = self.chance.randrange(len(text))
         byte = self.chance.choice([b"", b"\0", b"\n", b" ", b"0", b"f", bytes([self.chance.randrange(256)])])
@@ -205,7 +214,8 @@ class Script:
             self.order(number, b"branch", b"main", b"origin/main")
 
     def one_whole_push(self, number):
-        answer = self.order(number, b"push", *[self.item(self.world.clones[number]) for _ in range(self.chance.choice([1, 1, 2]))])
+        items = [self.item(self.world.clones[number]) for _ in range(self.chance.choice([1, 1, 2, 3]))]
+        answer = self.order(number, self.push_verb(), *items)
         if answer.startswith(b"sent "):
             answer = self.say(b"deliver", answer.split()[1])
         if answer.startswith(b"slot "):
@@ -260,7 +270,7 @@ def damaged(line, chance):
     return chance.choice([
         line + b" ", b" " + line, line + b" x", line + b"\r", b" ".join(words[:-1]), line.replace(b" ", b"  ", 1), b"", line.upper(),
         b"c%d fetch" % chance.choice([16, 99]), b"c01 fetch", b"deliver 1234567890", b"step x", b"restart", b"c0 write blob 4",
-        b"c0 write file 41", b"c0 branch %s main" % chance.choice(BAD_NAMES), b"c0 push main:%s" % chance.choice([b"HEAD", b"a", b"", b"refs/heads/a..b"]),
+        b"c0 write file 41", b"c0 branch %s main" % chance.choice(BAD_NAMES), b"c0 push-atomic", b"c0 push main:%s" % chance.choice([b"HEAD", b"a", b"", b"refs/heads/a..b"]),
         b"shared fetch", b"world 1", b"c0 same main", b"prune c0", b"stop c0", b"stop shared 1234567890", b"stop c99 0",
         b"forge shared shared 30", b"forge c0 c0 30", b"forge shared c0 3", b"forge c0 shared 0g", b"forge shared c99 30",
     ])

@@ -292,9 +292,8 @@ class Repository:
             if mode != FOLDER:
                 raise Refused(56)
             kind, body = self.object(it)
-            if kind != "tree":
-                raise Refused(55)
-            found = [(mode, it) for mode, name, it in entries_of(body) if name == part]
+            # (an entry may say that it is a folder and name another kind of object: that has no entries)
+            found = [(mode, it) for mode, name, it in entries_of(body) if name == part] if kind == "tree" else []
             if not found:
                 raise Refused(56)
             mode, it = found[0]

@@ -1,9 +1,9 @@
 """Messages as bytes, as docs/FORMATS.md tells them, for `world_model.py`: what forged bytes are read as, and how a message is written.
 
 Nothing here is taken from the sources or specs of the crates. A message is its kind and what it says: a list nothing, an advertisement
-the refs, a want what is wanted and what is had, a pack its objects, a push its commands and objects (none where a body is at fault), a
-report for each command its name, the new id and the number of the reason, or none where it was accepted. Bytes that are no message
-raise `Refused` with the number of their first fault.
+the refs, a want what is wanted and what is had, a pack its objects, a push its commands, its objects (none where a body is at fault) and
+whether it is atomic, a report for each command its name, the new id and the number of the reason, or none where it was accepted. Bytes
+that are no message raise `Refused` with the number of their first fault.
 """
 import re
 
@@ -14,7 +14,8 @@ ZERO = "0" * 40
 MOST = 256  # commands of a push, wants, haves
 LONGEST_LINE = 65_516
 FLUSH = b"0000"
-CAPABILITIES = b"\0report-status-v2"
+CAPABILITIES = b"report-status-v2"
+ATOMIC = b"atomic"  # a word after them, in an advertisement and in an atomic push
 TEXTS = {
     100: b"bad name",
     101: b"outside refs/heads and refs/tags",
@@ -26,6 +27,7 @@ TEXTS = {
     107: b"name conflict",
     108: b"stale",
     109: b"unpacker error",
+    117: b"atomic push failure",
 }
 NUMBERS = {words: number for number, words in TEXTS.items()}
 ID, NAME = rb"([0-9a-fA-F]{40})", rb"([^ \n\0]+)"
@@ -56,7 +58,7 @@ def write_list():
 
 def write_advert(refs):
     lines = [b"%s %s" % (it.encode(), name) for name, it in sorted(refs.items())] or [ZERO.encode() + b" capabilities^{}"]
-    return texts([lines[0] + CAPABILITIES, *lines[1:]]) + FLUSH
+    return texts([lines[0] + b"\0" + CAPABILITIES + b" " + ATOMIC, *lines[1:]]) + FLUSH
 
 
 def write_want(wants, haves):
@@ -67,10 +69,12 @@ def write_pack(objects):
     return texts([b"NAK"]) + write_stream(objects)
 
 
-def write_push(commands, objects):
+def write_push(commands, objects, is_atomic=False, words=None):
+    """A push, with other words after its first line's name if they are given."""
     lines = [b"%s %s %s" % (old.encode(), new.encode(), name) for old, new, name in commands]
     carried = write_stream(objects) if any(new != ZERO for _, new, _ in commands) else b""
-    return texts([lines[0] + CAPABILITIES, *lines[1:]]) + FLUSH + carried
+    words = (CAPABILITIES + b" " + ATOMIC if is_atomic else CAPABILITIES) if words is None else words
+    return texts([lines[0] + b"\0" + words, *lines[1:]]) + FLUSH + carried
 
 
 def write_report(results):
@@ -198,12 +202,12 @@ def read_pack(lines):
 
 
 def read_push(lines, *first):
-    found = [first]
+    found, words = [first[:3]], first[3].split(b" ")
     for text in lines.texts():
         add(found, parts(ID + b" " + ID + b" " + NAME, text))
     commands = [(id_of(old), id_of(new), name) for old, new, name in found]
     carries = any(new != ZERO for _, new, _ in commands)
-    return "push", (commands, read_stream(lines, False) if carries else {})
+    return "push", (commands, read_stream(lines, False) if carries else {}, ATOMIC in words)
 
 
 def read_report(lines):
@@ -231,7 +235,7 @@ READERS = {
     ID + b" " + NAME + rb"(?:\0.*)?": read_advert,
     b"want " + ID + rb"(?: .*)?": read_want,
     rb"NAK|ACK [0-9a-fA-F]{40}": read_pack,
-    ID + b" " + ID + b" " + NAME + rb"\0.*": read_push,
+    ID + b" " + ID + b" " + NAME + rb"\0(.*)": read_push,
     rb"unpack .*": read_report,
     rb"ERR .*": read_error,
 }
