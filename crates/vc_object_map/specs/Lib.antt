@@ -3,5 +3,7 @@ pub mod Graph
 pub mod History
 pub mod Overlay
 pub mod Parents
+pub mod Present
+pub mod Removal
 pub mod Store
 pub mod StoreFault

@@ -1,3 +1,4 @@
 pub mod PathLemmas
 pub mod StoreLemmas
 pub mod NamesLemmas
+pub mod RemovalLemmas

@@ -7,6 +7,7 @@
 mod listing;
 mod paths;
 mod reading;
+mod removal;
 mod source;
 mod stored;
 mod view;
@@ -14,6 +15,7 @@ mod writing;
 
 pub use listing::{by_prefix, names};
 pub use reading::{find, find_named, get, has, object_from};
+pub use removal::remove;
 pub use stored::Stored;
 pub use view::Store;
 pub use writing::{put, put_named};

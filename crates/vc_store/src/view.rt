@@ -5,6 +5,8 @@ ghost use Rattle.vc_object.specs.Object.{IsObject};
 ghost use Rattle.vc_store.specs.StoreCalls.{AnswersPut, Finds, Gets, Lists, ListsPrefix, Puts, TellsStored};
 ghost use Rattle.vc_object_map.specs.StoreFault.{IsFault, IsOfName};
 
+mod removing;
+
 use crate::{Stored, listing, reading, writing};
 use std::alloc::Global;
 use vc_files::{Fault, Files};
