@@ -1,3 +1,4 @@
 pub mod FaultLemmas
 pub mod IncompleteLemmas
 pub mod ParentsLemmas
+pub mod WalkOnLemmas

@@ -1,2 +1,3 @@
 pub mod GraphFault
 pub mod Incomplete
+pub mod Walking

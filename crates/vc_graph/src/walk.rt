@@ -6,6 +6,7 @@ ghost use Rattle.vc_graph.specs.GraphFault.{IsTold};
 ghost use Rattle.vc_object.specs.ObjectMap.{links_in};
 
 use crate::GraphFault;
+use crate::walking::walk_on;
 use indexmap::IndexSet;
 use vc_files::Fault;
 use vc_object::ObjectId;
@@ -26,15 +27,10 @@ pub(crate) fn walk<O: Objects>(
     ensures kept { O.state_of objects.new ≡ O.state_of objects.old }
     ensures wear { Wears O.failed O.can_fail O.left objects.old objects.new (IsErrOf result (GraphFault.Store (StoreFault.Fault Fault.Device))) }
 {
-    let mut next = met.len();
+    let place = met.len();
     met.extend(roots)?;
-    while next < met.len() {
-        let id = met[next];
-        let Some(links) = objects.links(&id)? else {
-            return Err(GraphFault::Missing(id));
-        };
-        met.extend(links)?;
-        next += 1;
+    match walk_on(objects, met, place)? {
+        None => Ok(()),
+        Some(absent) => Err(GraphFault::Missing(met[absent])),
     }
-    Ok(())
 }
