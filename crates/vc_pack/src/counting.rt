@@ -8,8 +8,8 @@ use std::alloc::{AllocError, Global};
 use vc_fetch::Want;
 use vc_object::ObjectId;
 
-// Whether the id is one of those, which are sorted by name.
-fn is_among(ids: &[ObjectId], id: &ObjectId) -> bool
+/// Whether the id is one of those, which are sorted by name.
+pub fn is_among(ids: &[ObjectId], id: &ObjectId) -> bool
     requires { IsSortedByName ids.now }
     ensures { IsTrue result ↔ Contains ids.now id.now }
 {

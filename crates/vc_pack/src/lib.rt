@@ -14,8 +14,10 @@ mod reading;
 mod values;
 
 pub use answer::answer_want;
+pub use counting::is_among;
 pub use fault::AnswerFault;
 pub use judge::{judge_pack, names_reached};
 pub use pack_objects::PackObjects;
 pub use reached::{Reached, what_is_reached_stands_while_objects_stay};
 pub use reading::{sent_beyond, sent_objects};
+pub use values::ref_values;

@@ -28,3 +28,12 @@ returns-clause-values g c honest =
     let ids : c.push.new.self.items ≡ values_of listed ++ c.in-Id.id ∷ [] = search (rules, c.in_ok-push-in-Id.ensures.items, c.in_ok-ids.ensures, c.deref.ensures.value) in
     let here : head_of content ≡ Some (head.Id c.in-Id.id) = search (rules, c.in_ok-found.ensures.found honest, c.in_ok-listed.ensures.same, c.in-Some.is, c.in-Id.is) in
     rw ids (values-detached content listed (c.in_ok-listed.ensures.listed honest) c.in-Id.id here)
+
+pub returns-in_default-clause-good : goal.returns-in_default-clause-good
+returns-in_default-clause-good g c honest = (c.in_ok-listed.ensures.good honest, rw c.in_ok-listed.ensures.same at (c.in_ok-found.ensures.good honest))
+
+pub returns-in-Branch-clause-good : goal.returns-in-Branch-clause-good
+returns-in-Branch-clause-good g c honest = (c.in_ok-listed.ensures.good honest, rw c.in_ok-listed.ensures.same at (c.in_ok-found.ensures.good honest))
+
+pub returns-clause-good : goal.returns-clause-good
+returns-clause-good g c honest = (c.in_ok-listed.ensures.good honest, rw c.in_ok-listed.ensures.same at (c.in_ok-found.ensures.good honest))
