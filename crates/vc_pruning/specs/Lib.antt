@@ -1,0 +1,3 @@
+pub mod Pruning
+pub mod Removing
+pub mod Roots
