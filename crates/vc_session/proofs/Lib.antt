@@ -7,3 +7,4 @@ pub mod LearningLemmas
 pub mod TurnLemmas
 pub mod TogetherLemmas
 pub mod AtomicLemmas
+pub mod NeedingLemmas

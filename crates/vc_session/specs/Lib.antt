@@ -4,3 +4,4 @@ pub mod Judged
 pub mod SessionFault
 pub mod Stepping
 pub mod Learning
+pub mod Needing

@@ -16,6 +16,8 @@ ghost use Rattle.vc_session.specs.SessionFault.{IsRefusedStep};
 ghost use Rattle.vc_push_rules.specs.Steps.{EndsEarly, IsOpened, MayWrite, Steps, TellsReport};
 ghost use Rattle.vc_session.specs.Stepping.{SparesFiles, StepsHeld, TakesStep};
 
+mod needing;
+
 use crate::checking::{check_in_files, check_together, count_passing, next_passing};
 use crate::fault::SessionFault;
 use crate::opening::{fresh, put_all};
