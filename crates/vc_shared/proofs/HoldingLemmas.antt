@@ -77,6 +77,10 @@ beyond_refs slot old new same path h =
     let is = split_from_starts path (quarantine_folder slot) h in
     same.at path (ap (λ p. starts_with nat_eq p (codes "refs/")) is) (ap (λ p. bytes_eq p packed_path) is)
 
+-- nor is one of what is stored
+pub beyond_objects : (slot : ℕ) (old new : FileMap) → SameOutside (codes "objects/") old new → SameThere old new slot
+beyond_objects slot old new same = beyond (codes "objects/") slot (λ rest. refl) old new same
+
 pub steps_dropped : (old new : FileMap) (s t : SessionText) (did : SessionStep) (slot : ℕ) → s.slot < 2 ^ 64 → slot < 2 ^ 64 → slot ≢ s.slot → Steps old new s t did → IsDropped slot old → IsDropped slot new
 steps_dropped old new s t (session.Checked n) slot small fits apart h dropped = subst (IsDropped slot) (sym h.files) dropped
 steps_dropped old new s t session.Migrated slot small fits apart h dropped = dropped_on old new slot (beyond (codes "objects/") slot (λ rest. refl) old new h.outside) dropped

@@ -24,3 +24,6 @@ pub mod ComingLemmas
 pub mod LossLemmas
 pub mod NextLemmas
 pub mod BurningLemmas
+pub mod AddingLemmas
+pub mod NeedingLemmas
+pub mod PruningLemmas

@@ -13,3 +13,5 @@ pub mod Stepping
 pub mod AcceptFault
 pub mod Arriving
 pub mod Burning
+pub mod Pruning
+pub mod Cleaning

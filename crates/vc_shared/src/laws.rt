@@ -2,6 +2,7 @@
 
 ghost use Rattle.vc_local.specs.NodeFault.{TellsDevice as TellsNodeDevice};
 ghost use Rattle.vc_local.specs.Told.{FoundAs, RestartedAs};
+ghost use Rattle.vc_pruning.specs.Pruning.{PrunedAs};
 ghost use Rattle.vc_shared.specs.Burning.{CleanSuffices, OpeningBurns, SharedBurns, StepMayWrite, StepSuffices};
 ghost use Rattle.vc_shared.specs.Calls.{AcceptedAs, SteppedAs};
 ghost use Rattle.vc_shared.specs.Faults.{TellsDevice, fault_answer};
@@ -37,6 +38,7 @@ pub fn a_call_of_the_shared_node_spends_what_the_machine_allows<F: Files>()
     ensures stepped { SharedBurns F.honest F.content F.failed F.can_fail F.left SteppedAs (λ r. TellsDevice r) }
     ensures found { SharedBurns F.honest F.content F.failed F.can_fail F.left (FoundAs fault_answer) (λ r. TellsDevice r) }
     ensures packed { SharedBurns F.honest F.content F.failed F.can_fail F.left RestartedAs (λ r. TellsNodeDevice r) }
+    ensures pruned { SharedBurns F.honest F.content F.failed F.can_fail F.left PrunedAs (λ r. TellsNodeDevice r) }
     ensures step { StepMayWrite }
     ensures clean { CleanSuffices }
     ensures enough { StepSuffices }

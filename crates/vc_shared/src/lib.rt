@@ -9,6 +9,7 @@ mod accepting;
 mod arriving;
 mod fault;
 mod laws;
+mod pruning;
 mod pushing;
 mod resolving;
 mod serving;

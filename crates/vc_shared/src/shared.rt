@@ -27,6 +27,8 @@ ghost use Rattle.vc_shared.specs.Resolving.{IsRefusedValue};
 ghost use Rattle.vc_shared.specs.Slots.{AreTellable, slot_of};
 ghost use Rattle.vc_shared.specs.Stepping.{IsRefusedIn, LeavesPackedIn};
 
+mod cleaning;
+
 use crate::arriving::refuse_down;
 use crate::{AcceptFault, Accepted, SharedFault, Stepped, accepting, arriving, stepping};
 use std::alloc::Global;
@@ -48,7 +50,8 @@ pub struct Shared<F: Files> {
     alloc: Global,
     slots: [Option<PushSession>; 8],
     is_up: bool,
-    // What is known of the generations of commits. No call takes an object away, so it stands until the files are opened again.
+    // What is known of the generations of commits. It stands until a prune, which may take some of them away, or until the files are
+    // opened again.
     generations: Generations,
     // The commits whose histories are learnt before the next check.
     due: Vec<ObjectId>,

@@ -1,5 +1,6 @@
 use Rattle.vc_local.specs.NodeFault.{TellsDevice as TellsNodeDevice}
 use Rattle.vc_local.specs.Told.{FoundAs, RestartedAs}
+use Rattle.vc_pruning.specs.Pruning.{PrunedAs}
 use Rattle.vc_shared.specs.Calls.{AcceptedAs, SteppedAs}
 use Rattle.vc_shared.specs.Faults.{TellsDevice, fault_answer}
 use Rattle.vc_shared.proofs.BurningLemmas.{clean_suffices, may_step, opening_burns, shared_burns, step_suffices}
@@ -28,3 +29,6 @@ returns-clause-enough g c = step_suffices
 
 pub returns-clause-opened : goal.returns-clause-opened
 returns-clause-opened g c = opening_burns g.F.Files.honest g.F.Files.content g.F.Files.failed g.F.Files.can_fail g.F.Files.left RestartedAs (λ r. TellsNodeDevice r)
+
+pub returns-clause-pruned : goal.returns-clause-pruned
+returns-clause-pruned g c = shared_burns g.F.Files.honest g.F.Files.content g.F.Files.failed g.F.Files.can_fail g.F.Files.left PrunedAs (λ r. TellsNodeDevice r)
