@@ -12,6 +12,7 @@ pub mod LearningLemmas
 pub mod LossLemmas
 pub mod OwnLemmas
 pub mod PackingLemmas
+pub mod PruningAnswers
 pub mod ReceivingClone
 pub mod ReceivingFaults
 pub mod RestartLemmas

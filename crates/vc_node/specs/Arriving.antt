@@ -52,7 +52,7 @@ use Rattle.vc_node.specs.declared.receive_fault.ReceiveFault.{ReceiveFault}
 use Rattle.vc_node.specs.declared.receive_fault.ReceiveFault.TheVariants.{Node, ReadFailed}
 
 -- ---- a reader that fails
--- what a call of a clone tells of a reader that fails, and what it keeps where the reader failed
+-- what a call of a clone tells of a reader that fails, and what it keeps if the reader failed
 pub record KeepsAtLoss {S T : Type 0} (failed : S → ℕ) (can_fail : S → Type 0) (old new : S) (honest : Type 0) (result : Result T ReceiveFault) (Kept : Type 0) : Type 0 where
   pub failures : TellsLoss failed can_fail old new (IsErrOf result ReadFailed) (ends_in_fault result ≡ true)
   pub kept : honest → IfErr result (λ e. e ≡ ReadFailed → Kept)
@@ -181,7 +181,7 @@ down_told (Err incoming.Failed) = Err ReadFailed
 down_told (Err incoming.Memory) = Err (Node (of_device Memory))
 down_told (Err (incoming.Unread fault)) = Err (Node (clone.Node Down))
 
--- Where a message is the first that the reader has, what is told is the machine's answer to it, and what is behind it is left; or the
+-- If a message is the first that the reader has, what is told is the machine's answer to it, and what comes after it is left; or the
 -- reader failed, or a fault came.
 abbrev pub IsKnown : Type 0 → Bool → Message → List ℕ → Option (List ℕ) → (CloneCall → Type 0) → Result (Option Received) ReceiveFault → Type 0
 IsKnown honest was_up m rest left Answers (Ok (Some received)) = (left ≡ Some rest) × (honest → Answers (Receive m))

@@ -30,7 +30,7 @@ use Rattle.vc_local.specs.declared.fault.NodeFault.{NodeFault}
 
 -- A call of a held node that says what it answers, what it wears, which one ref it may take out of the packed file, and where it
 -- only looks, is a step of the machine that ends with the writes left which the machine allows: one for each place that changed,
--- none where the command may not write, and a fault of the device only where none was left for a write that it wanted. `frail` says
+-- none if the command may not write, and a fault of the device only if none was left for a write that it wanted. `frail` says
 -- whether the device may fail without a stop.
 abbrev pub CallsBurn : {D T : Type 0} → (honest : Type 0) → (D → FileMap) → (D → ℕ) → (D → Type 0) → (D → Option ℕ) → (Result T NodeFault → Answer) → Type 0
 CallsBurn {D} {T} honest content failed can_fail left answer_of =
@@ -44,8 +44,8 @@ CallsBurn {D} {T} honest content failed can_fail left answer_of =
     → (m : CloneNode) × HoldsNode (content new) is_up awaited m × CloneAnswers git git_rules n (Command task) (answer_of result) m None
     × Burns frail (left old) (MayClone git git_rules n (Command task)) ⊥ n.repository m.repository (answer_of result) (left new)
 
--- The same of a command that takes it that all is there that refs reach: some node is held then, the step is the machine's where the
--- node was sound, and there alone the command is known to be one that may write.
+-- The same of a command that takes it that all is there that refs reach: some node is held then, the step is the machine's if the
+-- node was sound, and only then the command is known to be one that may write.
 abbrev pub SoundCallsBurn : {D T : Type 0} → (honest : Type 0) → (D → FileMap) → (D → ℕ) → (D → Type 0) → (D → Option ℕ) → (Result T NodeFault → Answer) → Type 0
 SoundCallsBurn {D} {T} honest content failed can_fail left answer_of =
     (old new : D) (result : Result T NodeFault) (frail : Bool) (task : Task) (was_up is_up : Bool) (awaited : Awaited) (n : CloneNode)
@@ -59,7 +59,7 @@ SoundCallsBurn {D} {T} honest content failed can_fail left answer_of =
     × Burns frail (left old) (IsSound git n.repository → MayClone git git_rules n (Command task)) ⊥ n.repository m.repository (answer_of result) (left new)
 
 -- The same of a call that sends or takes messages, or asks for a value: what it awaits then is held too, and the step, and whether it
--- may write, are the machine's where the node was sound. What it spends is one write for each place that changed in any case.
+-- may write, are the machine's if the node was sound. What it spends is one write for each place that changed in any case.
 abbrev pub ExchangesBurn : {D T : Type 0} → (honest : Type 0) → (D → FileMap) → (D → ℕ) → (D → Type 0) → (D → Option ℕ) → (Result T CloneFault → Answer → Option Message → Type 0) → Type 0
 ExchangesBurn {D} {T} honest content failed can_fail left shows =
     (old new : D) (result : Result T CloneFault) (frail : Bool) (call : CloneCall) (waits after : AwaitedText) (was_up is_up : Bool) (awaited : Awaited) (n : CloneNode)

@@ -38,13 +38,13 @@ ReceivedAs (Ok (Moved moved left)) a sends = Quietly (Did (MovedRefs moved left)
 ReceivedAs (Ok (Reported moved refused)) a sends = Quietly (Did (ReportedRefs moved refused.items)) a sends
 ReceivedAs (Err e) a sends = Quietly (fault_answer e) a sends
 
--- Whatever node was held, some node is held after the call; and where the node was sound, the answer and that node are the machine's.
+-- Whatever node was held, some node is held after the call; and if the node was sound, the answer and that node are the machine's.
 pub record AnswersClone (call : CloneCall) (shows : Answer → Option Message → Type 0) (old new : FileMap) (waits after : AwaitedText) (was_up is_up : Bool) : Type 0 where
   pub each : (awaited : Awaited) (n : CloneNode) → IsAwaited waits awaited → HoldsNode old was_up awaited n
       → (left : Awaited) × (m : CloneNode) × (a : Answer) × (sends : Option Message) × IsAwaited after left × HoldsNode new is_up left m × shows a sends
       × (IsSound git n.repository → CloneAnswers git git_rules n call a m sends)
 
--- Whatever node was held: where it is sound the machine's call may write, or this holds.
+-- Whatever node was held: if it is sound the machine's call may write, or this holds.
 abbrev pub MayOr : CloneCall → AwaitedText → Bool → FileMap → Type 0 → Type 0
 MayOr call waits was_up old IsLook = (awaited : Awaited) (n : CloneNode) → IsAwaited waits awaited → HoldsNode old was_up awaited n → (IsSound git n.repository → MayClone git git_rules n call) ⊎ IsLook
 

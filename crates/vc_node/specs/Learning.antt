@@ -43,7 +43,7 @@ pub record Leaves {T E : Type 0} (honest Learns : Type 0) (result : Result T E) 
   pub learnt : honest → LeavesLearnt Learns is_up new now
 
 -- Of a value that a ref was set to: it is due, and what is due is learnt at the next message that is judged, each commit of its history
--- with its generation, where that is whole and 64 bits hold the number.
+-- with its generation, if that is whole and 64 bits hold the number.
 abbrev pub SetIsDue : Type 0
 SetIsDue = (old new : FileMap) (known now : Learnt) (name : List ℕ) (id : ObjectId) → refs new name ≡ Some id → refs old name ≢ Some id → LearnsJudging old new known now → Contains now.due id
 
@@ -68,7 +68,7 @@ abbrev pub LeavesNext : {F : Type 0} → Type 0 → (F → FileMap) → Result (
 LeavesNext honest content result old new awaited after known now =
     Leaves honest (LearnsNext result (content old) (content new) known now) result (receive_up_after result) (content new) (awaited_text awaited) (awaited_text after) now
 
--- where no message came
+-- if no message came
 abbrev pub IfNothing : {T E : Type 0} → Result (Option T) E → Type 0 → Type 0
 IfNothing result IsSo = IfOk result (λ found. IfNone found IsSo)
 

@@ -9,3 +9,4 @@ pub mod Node
 pub mod Receipts
 pub mod ReceiveFault
 pub mod Stored
+pub mod Cleaning

@@ -59,7 +59,7 @@ pub record SettlesTaken {F T E : Type 0} (result : Result T E) (IsDown : Type 0)
   pub awaits : OnErr result (new.awaited ≡ old.awaited)
   pub learnt : new.learnt ≡ old.learnt
 
--- The same of a call that takes a message: where the node is up then, this is learnt.
+-- The same of a call that takes a message: if the node is up then, this is learnt.
 pub record SettlesLearning {F T E : Type 0} (honest Learns : Type 0) (result : Result T E) (IsDown : Type 0) (is_up : Bool) (old new : Held F) : Type 0 where
   pub down : old.is_up ≡ false → IsDown
   pub unchanged : old.is_up ≡ false → new ≡ old
@@ -76,13 +76,13 @@ abbrev pub SettlesNext : {F : Type 0} → Type 0 → (F → FileMap) → Result 
 SettlesNext honest content result old new =
     SettlesLearning honest (LearnsNext result (content old.files) (content new.files) old.learnt new.learnt) result (Unit {0}) (receive_up_after result) old new
 
--- the device is only looked at, as it may be where a call that is refused, or that changes nothing, ends
+-- the device is only looked at, as it may be when a call ends that is refused, or that changes nothing
 abbrev pub Looks : {F T : Type 0} → (F → ℕ) → (F → Type 0) → (F → Option ℕ) → Held F → Held F → Result T NodeFault → Type 0
 Looks failed can_fail left old new result = Wears failed can_fail left old.files new.files (TellsDevice result)
 
 -- ---- a command
 
--- The machine's answer to it, and the node that it leads to: of a node that is held, and of what any files show, where none that the
+-- The machine's answer to it, and the node that it leads to: of a node that is held, and of what any files show, if none that the
 -- call reads is bad.
 pub record AnswersCommand {F T : Type 0} (content : F → FileMap) (task : Task) (told : Result T NodeFault → Answer) (result : Result T NodeFault) (old new : Held F) : Type 0 where
   pub held : Answers task (told result) old.is_up new.is_up (content old.files) (content new.files)

@@ -43,7 +43,7 @@ abbrev pub ends_in_fault : {T : Type 0} → Result T ReceiveFault → Bool
 ends_in_fault (Ok x) = false
 ends_in_fault (Err e) = is_fault e
 
--- what a node tells of a message is told of it where a reader brought it
+-- what a node tells of a message is told of it if a reader brought it
 abbrev pub told_of : {T : Type 0} → Result T CloneFault → Result T ReceiveFault
 told_of (Ok x) = Ok x
 told_of (Err e) = Err (Node e)

@@ -30,8 +30,8 @@ use vc_object::ObjectId;
 use vc_pkt::PktFault;
 use vc_quarantine::{Arriving, drop_quarantine};
 
-// The objects of a pack, each of which stands in the quarantine once all of the pack has come. Where it doesn't, some may be left
-// there. A body out of its kind's grammar is a fault of the pack, and nothing behind it is read.
+// The objects of a pack, each of which stands in the quarantine once all of the pack has come. If it doesn't, some may be left
+// there. A body out of its kind's grammar is a fault of the pack, and nothing after it is read.
 fn arrive<F: Files, R: Source>(
     alloc: Global,
     files: &mut F,
@@ -60,7 +60,7 @@ fn arrive<F: Files, R: Source>(
 }
 
 // Takes the objects of the pack that brings these wants, of which what stands before them was taken: once all of it has come it is
-// judged, stored and followed, and the quarantine emptied. Where that isn't done, some may be left there.
+// judged, stored and followed, and the quarantine emptied. If that isn't done, some may be left there.
 fn take_awaited<F: Files, R: Source>(
     alloc: Global,
     files: &mut F,

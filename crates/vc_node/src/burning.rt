@@ -6,6 +6,7 @@ ghost use Rattle.vc_node.specs.CloneFaults.{TellsDevice as CloneTellsDevice, fau
 ghost use Rattle.vc_local.specs.NodeFault.{TellsDevice};
 ghost use Rattle.vc_local.specs.Machine.{done_answer, made_answer};
 ghost use Rattle.vc_local.specs.Told.{FoundAs, RestartedAs};
+ghost use Rattle.vc_pruning.specs.Pruning.{PrunedAs};
 
 use vc_files::Files;
 
@@ -31,7 +32,7 @@ pub fn a_packing_spends_what_the_machine_allows<F: Files>()
     ensures packed { PacksBurn F.honest F.content F.failed F.can_fail F.left }
 {}
 
-/// A call of a held clone, other than its opening, spends what the machine allows, also where a fuse has blown behind it.
+/// A call of a held clone, other than its opening, spends what the machine allows, also if a fuse has blown in its files.
 pub fn a_calm_clone_spends_what_the_machine_allows<F: Files>()
     ensures made { CloneBurns F.honest F.content F.failed F.can_fail F.left (λ r. Quietly (made_answer r)) (λ r. TellsDevice r) }
     ensures done { CloneBurns F.honest F.content F.failed F.can_fail F.left (λ r. Quietly (done_answer r)) (λ r. TellsDevice r) }
@@ -39,5 +40,6 @@ pub fn a_calm_clone_spends_what_the_machine_allows<F: Files>()
     ensures sent { CloneBurns F.honest F.content F.failed F.can_fail F.left SentAs (λ r. CloneTellsDevice r) }
     ensures found { CloneBurns F.honest F.content F.failed F.can_fail F.left (FoundAs fault_answer) (λ r. CloneTellsDevice r) }
     ensures packed { CloneBurns F.honest F.content F.failed F.can_fail F.left RestartedAs (λ r. TellsDevice r) }
+    ensures pruned { CloneBurns F.honest F.content F.failed F.can_fail F.left PrunedAs (λ r. TellsDevice r) }
     ensures enough { CloneSuffices }
 {}

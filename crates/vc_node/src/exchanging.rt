@@ -41,7 +41,7 @@ pub enum Received {
     Reported { moved: usize, refused: Vec<u16> },
 }
 
-// The refs of the shared node, where they are awaited.
+// The refs of the shared node, if they are awaited.
 fn take_advert<F: Files>(
     alloc: Global,
     files: &mut F,
@@ -78,7 +78,7 @@ fn take_advert<F: Files>(
     }
 }
 
-// A pack, where it is awaited.
+// A pack, if it is awaited.
 fn take_pack<F: Files>(
     alloc: Global,
     files: &mut F,
@@ -165,7 +165,7 @@ pub(crate) fn take<F: Files>(
     }
 }
 
-/// Takes the message that is all of the bytes, where it is awaited.
+/// Takes the message that is all of the bytes, if it is awaited.
 pub(crate) fn receive<F: Files>(
     alloc: Global,
     files: &mut F,

@@ -48,6 +48,8 @@ ghost use Rattle.vc_local.specs.Shown.{IsLoaded, shown};
 ghost use Rattle.vc_local.specs.Staging.{BlamesStaging, places};
 ghost use Rattle.vc_local.specs.Told.{FoundAs, RestartedAs};
 
+mod cleaning;
+
 use crate::arriving::refuse_down;
 use crate::awaited::Awaited;
 use crate::{CloneFault, ReceiveFault, Received, arriving, exchanging};
@@ -79,11 +81,13 @@ pub struct CloneNode<F: Files> {
     alloc: Global,
     awaited: Awaited,
     is_up: bool,
-    // What the tracking refs reached at the last push. No call takes an object away, so it stands for them until the next one.
+    // What the tracking refs reached at the last push. No call but a prune takes an object away, and that one forgets it, so it stands
+    // for them until the next one.
     reached: Reached,
-    // The index as the opening has read it, where no call has used the files since.
+    // The index as the opening has read it, if no call has used the files since.
     index: Option<Index>,
-    // What is known of the generations of commits. No call takes an object away, so it stands until the files are opened again.
+    // What is known of the generations of commits. No call but a prune takes an object away, so it stands until then, or until the files
+    // are opened again.
     generations: Generations,
     // The commits whose histories are learnt before a message is judged.
     due: Vec<ObjectId>,
@@ -111,7 +115,7 @@ impl<F: Files> Model for CloneNode<F> {
 
 impl<F: Files> CloneNode<F> {
     /// The clone that the files hold, with nothing awaited and nothing in quarantine. In a new one HEAD names the branch `main`, and
-    /// the index has no files. Where the files are none of a clone's (33 and 34: HEAD, 62: the index), or a fault comes, they are
+    /// the index has no files. If the files are none of a clone's (33 and 34: HEAD, 62: the index), or a fault comes, they are
     /// handed back, and what stood in quarantine may be gone.
     pub fn open(alloc: Global, mut files: F) -> Result<CloneNode<F>, (F, NodeFault)>
         ensures opened { F.honest → IfOk result (λ node. IsOpened (F.content files) (F.content node.files)) }
@@ -164,7 +168,7 @@ impl<F: Files> CloneNode<F> {
     }
 
     /// Opens the files again, in place: the node is up then, whatever it was before, nothing is awaited, and nothing is in quarantine.
-    /// Where that fails (see [`open`](CloneNode::open)) it is down, and the files are as they were but for the quarantine.
+    /// If that fails (see [`open`](CloneNode::open)) it is down, and the files are as they were but for the quarantine.
     pub fn restart(&mut self) -> Result<(), NodeFault>
         ensures answers { F.honest → AnswersCall F.content Open (RestartedAs result) self.old self.new }
         ensures refused { F.honest → IfErr result (BlamesOpen (F.content self.old.files)) }
@@ -236,7 +240,7 @@ impl<F: Files> CloneNode<F> {
         }
     }
 
-    /// Takes a path away from the index. Where nothing stands, nothing changes.
+    /// Takes a path away from the index. If nothing stands there, nothing changes.
     pub fn unstage(&mut self, path: &[u8]) -> Result<(), NodeFault>
         ensures answers { F.honest → AnswersCommand F.content (Unstage path.now) done_answer result self.old self.new }
         ensures settles { Settles (result ≡ Err NodeFault.Down) (up_after result) self.old self.new }
@@ -321,7 +325,7 @@ impl<F: Files> CloneNode<F> {
         }
     }
 
-    /// Removes a branch. Where there is none, nothing changes.
+    /// Removes a branch. If there is none, nothing changes.
     pub fn delete_branch(&mut self, branch: &RefName) -> Result<(), NodeFault>
         requires { starts_with nat_eq branch.now (codes "refs/heads/") ≡ true }
         ensures answers { F.honest → AnswersCommand F.content (DeleteBranch branch.now) done_answer result self.old self.new }
@@ -342,8 +346,8 @@ impl<F: Files> CloneNode<F> {
         }
     }
 
-    /// Sets a branch to a commit, whatever it was: 32 where its name conflicts with a ref; then 40 where not all is
-    /// there that the commit reaches, and 41 where it is no commit, or one along its parent links isn't. That all is there
+    /// Sets a branch to a commit, whatever it was: 32 if its name conflicts with a ref; then 40 if not all is
+    /// there that the commit reaches, and 41 if it is no commit, or one along its parent links isn't. That all is there
     /// that refs reach, and that branches lead to commits alone, is taken from the refs, as it is so at a sound clone.
     pub fn set_branch(&mut self, branch: &RefName, id: &ObjectId) -> Result<(), NodeFault>
         requires { starts_with nat_eq branch.now (codes "refs/heads/") ≡ true }
@@ -385,8 +389,8 @@ impl<F: Files> CloneNode<F> {
         }
     }
 
-    /// Makes the index that of a tree's files: 60 where a path is too long, 63 where an entry leads to an object of
-    /// another kind than its mode says, and 40 where it leads to none, as the tree is read in the order of its paths.
+    /// Makes the index that of a tree's files: 60 if a path is too long, 63 if an entry leads to an object of
+    /// another kind than its mode says, and 40 if it leads to none, as the tree is read in the order of its paths.
     pub fn load_tree(&mut self, id: &ObjectId) -> Result<(), NodeFault>
         ensures loaded { F.honest → OnOk result (IsLoaded (F.content self.old.files) id.now (F.content self.new.files)) }
         ensures answers { F.honest → AnswersCommand F.content (LoadTree id.now.0) done_answer result self.old self.new }
@@ -408,7 +412,7 @@ impl<F: Files> CloneNode<F> {
     }
 
     /// Commits the index, and answers the name of the commit: its tree is the index's, its parents are HEAD's commit, if
-    /// there is one, and then the extra ones, and behind an empty line stand the message and LF. HEAD's branch, or a
+    /// there is one, and then the extra ones, and after an empty line come the message and LF. HEAD's branch, or a
     /// detached HEAD, is moved to it. Refused, in this order, are an author or a committer of more than one line (8), a
     /// HEAD whose branch conflicts with a ref (32), an extra parent of which not all is there (40) or that is no commit
     /// (41), as in [`set_branch`](CloneNode::set_branch), and a commit or a tree that is too large (3). One that changes no
@@ -545,10 +549,10 @@ impl<F: Files> CloneNode<F> {
         self.send_push(true, items)
     }
 
-    /// Takes the message from the shared node that is all of the bytes: its refs and a pack where they are awaited, and the report on
+    /// Takes the message from the shared node that is all of the bytes: its refs and a pack if they are awaited, and the report on
     /// a push at any time. Refused are bytes that are no message (80 to 84, or 3), a message that isn't awaited (91), and a pack with
     /// which not all is there that was asked for (92); nothing is changed then, and what was awaited stays so. What was taken is
-    /// awaited no longer; where ids are asked for, their pack is awaited.
+    /// awaited no longer; if ids are asked for, their pack is awaited.
     pub fn receive(&mut self, bytes: &[u8]) -> Result<Received, CloneFault>
         ensures answers { F.honest → (m : Sent) → Reads bytes.now m → AnswersCall F.content (Receive m) (ReceivedAs result) self.old self.new }
         ensures unread { F.honest → (n : ℕ) → IsUnread bytes.now n → AnswersCall F.content (Asks (Unread n)) (ReceivedAs result) self.old self.new }
@@ -605,12 +609,12 @@ impl<F: Files> CloneNode<F> {
         }
     }
 
-    /// Takes the next message from a reader, and no byte behind it, as [`receive`](CloneNode::receive) takes its bytes; none where the
+    /// Takes the next message from a reader, and no byte after it, as [`receive`](CloneNode::receive) takes its bytes; none if the
     /// reader is at its end before the first byte. The objects of a pack that is awaited go into the quarantine as they come, and are
     /// judged there, so that one line and one body are held at a time.
     ///
     /// A message that isn't awaited (91) is read to its end. Bytes that are no message are refused with their first fault (80 to 84, or 3)
-    /// as soon as it has come, and a reader that fails with 115. In none of these is anything changed, nor is it where not all is there
+    /// as soon as it has come, and a reader that fails with 115. In none of these is anything changed, nor is it if not all is there
     /// that was asked for (92): what was put into the quarantine is gone again. A node that is down refuses a message and bytes that are
     /// none (112), and takes as much of the reader. Want of memory takes the node down, as a device that fails does, and as a file of its own
     /// that is gone or damaged does.
@@ -698,8 +702,8 @@ impl<F: Files> CloneNode<F> {
         self.settle(received)
     }
 
-    /// Puts all refs into one file. Nothing else is written, and no ref changes, wherever it stops. 33 where one of their files
-    /// can't be read, 32 where one of them is a folder of another: then nothing is written.
+    /// Puts all refs into one file. Nothing else is written, and no ref changes, wherever it stops. 33 if one of their files
+    /// can't be read, 32 if one of them is a folder of another: then nothing is written.
     pub fn pack_refs(&mut self) -> Result<(), NodeFault>
         ensures answers { F.honest → AnswersCall F.content (Asks PackRefs) (RestartedAs result) self.old self.new }
         ensures packed { F.honest → OnOk result (IsPackedFrom (F.content self.old.files) (F.content self.new.files)) }
@@ -720,7 +724,7 @@ impl<F: Files> CloneNode<F> {
         }
     }
 
-    /// The object that an expression names at the clone: 51 to 56 where it names none.
+    /// The object that an expression names at the clone: 51 to 56 if it names none.
     pub fn resolve(&mut self, expr: &Expr<'_>) -> Result<ObjectId, CloneFault>
         ensures answers { F.honest → (text : List ℕ) → IsExpr text (expr_view expr.now) → AnswersCall F.content (Asks (Resolve text)) (FoundAs fault_answer result) self.old self.new }
         ensures value { F.honest → IfOk result (λ id. DenotesIn (F.content self.old.files) (expr_view expr.now) (Ok id)) }
@@ -747,7 +751,7 @@ impl<F: Files> CloneNode<FusedFiles<F>> {
     ghost use Rattle.vc_files.specs.Fused.{left_after};
     ghost use Rattle.vc_files.specs.declared.fused.Fuse.TheVariants.{Unset};
 
-    /// Sets a stop: so many more writes pass, and the next one fails and takes the node down. Where the files are stopped already
+    /// Sets a stop: so many more writes pass, and the next one fails and takes the node down. If the files are stopped already
     /// they stay so.
     pub fn stop_after(&mut self, writes: u64)
         ensures files { self.new.files.files ≡ self.old.files.files }

@@ -5,6 +5,7 @@ use Rattle.vc_node.specs.CloneFaults.{TellsDevice as CloneTellsDevice, fault_ans
 use Rattle.vc_local.specs.Machine.{done_answer, made_answer}
 use Rattle.vc_local.specs.NodeFault.{TellsDevice}
 use Rattle.vc_local.specs.Told.{FoundAs, RestartedAs}
+use Rattle.vc_pruning.specs.Pruning.{PrunedAs}
 use Rattle.vc_node.proofs.burning.a_calm_clone_spends_what_the_machine_allows.Goals as goal
 
 pub returns-clause-made : goal.returns-clause-made
@@ -24,6 +25,9 @@ returns-clause-found g c = clone_burns g.F.Files.honest g.F.Files.content g.F.Fi
 
 pub returns-clause-packed : goal.returns-clause-packed
 returns-clause-packed g c = clone_burns g.F.Files.honest g.F.Files.content g.F.Files.failed g.F.Files.can_fail g.F.Files.left RestartedAs (λ r. TellsDevice r)
+
+pub returns-clause-pruned : goal.returns-clause-pruned
+returns-clause-pruned g c = clone_burns g.F.Files.honest g.F.Files.content g.F.Files.failed g.F.Files.can_fail g.F.Files.left PrunedAs (λ r. TellsDevice r)
 
 pub returns-clause-enough : goal.returns-clause-enough
 returns-clause-enough g c = clone_suffices
