@@ -5,7 +5,7 @@ ghost use Rattle.std.specs.Prelude.{◌≡◌, ◌≢◌, [], IfOk, IfSome, true
 use crate::arriving;
 use crate::site::Device;
 use crate::telling::{push_started, push_taken};
-use crate::words::{push_done, push_found, push_restarted};
+use crate::words::{push_done, push_found, push_pruned, push_restarted};
 use bstr::ByteVec;
 use std::alloc::{AllocError, Global};
 use std::fmt::Write;
@@ -40,6 +40,19 @@ fn add(
     push_done(out, &node.add(path.as_bytes(), Mode::File, &bytes))
 }
 
+// A path and a text: the name of its blob is put into the index as that of a commit of another repository.
+fn add_module(
+    out: &mut String,
+    node: &mut CloneNode<Device>,
+    text: &str,
+) -> Result<(), AllocError> {
+    let (path, words) = text.split_once(' ').unwrap_or((text, ""));
+    push_done(
+        out,
+        &node.add(path.as_bytes(), Mode::Commit, words.as_bytes()),
+    )
+}
+
 // A branch and an id.
 fn branch(
     out: &mut String,
@@ -55,6 +68,19 @@ fn branch(
         return out.push_str("no id");
     };
     push_done(out, &node.set_branch(&name, &id))
+}
+
+// A branch, which is deleted.
+fn delete(
+    out: &mut String,
+    alloc: Global,
+    node: &mut CloneNode<Device>,
+    name: &str,
+) -> Result<(), AllocError> {
+    let Some(name) = branch_of(alloc, name) else {
+        return out.push_str("no branch");
+    };
+    push_done(out, &node.delete_branch(&name))
 }
 
 // The item of a word: a name, `=`, and the digits of an id, or nothing.
@@ -139,8 +165,10 @@ pub fn call(
     match verb {
         "blob" => push_found(out, &node.write(Kind::Blob, text.as_bytes())),
         "add" => add(out, alloc, node, text),
+        "module" => add_module(out, node, text),
         "commit" => commit(out, node, text),
         "branch" => branch(out, alloc, node, text),
+        "delete" => delete(out, alloc, node, text),
         "fetch" => push_started(out, &node.start_fetch()),
         "push" => push(out, alloc, node, false, text),
         "push-atomic" => push(out, alloc, node, true, text),
@@ -150,6 +178,7 @@ pub fn call(
         "resolve" => resolve(out, alloc, node, text),
         "restart" => push_restarted(out, &node.restart(), node.is_up()),
         "pack" => push_done(out, &node.pack_refs()),
+        "prune" => push_pruned(out, &node.prune()),
         _ => out.push_str("no such verb"),
     }
 }

@@ -4,7 +4,7 @@ ghost use Rattle.std.specs.Prelude.{◌≡◌, ◌≢◌, [], IfOk, IfSome, true
 
 use crate::arriving;
 use crate::site::{Device, Site};
-use crate::words::{push_done, push_found, push_sent, taken};
+use crate::words::{push_done, push_found, push_pruned, push_sent, taken};
 use bstr::ByteVec;
 use std::alloc::{AllocError, Global};
 use std::fmt::Write;
@@ -228,6 +228,7 @@ fn call(
         "from" => arriving::take_from(out, alloc, sent, node, text),
         "next" => arriving::take_first(out, alloc, sent, node, text),
         "resolve" => resolve(out, alloc, node, text),
+        "prune" => push_pruned(out, &node.prune()),
         _ => out.push_str("no such verb"),
     }
 }

@@ -2,7 +2,7 @@
 
 use crate::arriving;
 use crate::site::{Device, Site};
-use crate::words::{push_bytes, push_found, push_sent, taken};
+use crate::words::{push_bytes, push_found, push_pruned, push_sent, taken};
 use bstr::ByteVec;
 use std::alloc::{AllocError, Global};
 use std::fmt::Write;
@@ -113,6 +113,7 @@ fn call(
         "next" => arriving::take_first(out, alloc, sent, node, text),
         "step" => push_stepped(out, sent, node.step(text.parse::<u8>().unwrap_or(255))),
         "resolve" => resolve(out, alloc, node, text),
+        "prune" => push_pruned(out, &node.prune()),
         _ => out.push_str("no such verb"),
     }
 }

@@ -48,6 +48,17 @@ pub fn push_done<E: Display>(out: &mut String, done: &Result<(), E>) -> Result<(
     }
 }
 
+/// Writes how many objects a prune took away, or why it ended early.
+pub fn push_pruned<E: Display>(
+    out: &mut String,
+    pruned: &Result<u64, E>,
+) -> Result<(), AllocError> {
+    match pruned {
+        Ok(removed) => write!(out, "pruned {removed}"),
+        Err(fault) => write!(out, "{fault}"),
+    }
+}
+
 /// The message of this number of those that were sent, from 0, or else the last one; no bytes if there is none.
 pub fn taken(alloc: Global, sent: &[Vec<u8>], text: &str) -> Result<Vec<u8>, AllocError> {
     let found = match text.parse::<usize>() {

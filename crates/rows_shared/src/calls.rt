@@ -3,7 +3,7 @@
 use crate::arriving;
 use crate::site::Device;
 use crate::telling::{push_answered, push_served, push_stepped};
-use crate::words::{push_bytes, push_done, push_found, push_restarted};
+use crate::words::{push_bytes, push_done, push_found, push_pruned, push_restarted};
 use bstr::ByteVec;
 use std::alloc::{AllocError, Global};
 use std::fmt::Write;
@@ -84,6 +84,7 @@ pub fn call(
         "resolve" => resolve(out, alloc, node, text),
         "restart" => push_restarted(out, &node.restart(), node.is_up()),
         "pack" => push_done(out, &node.pack_refs()),
+        "prune" => push_pruned(out, &node.prune()),
         _ => out.push_str("no such verb"),
     }
 }

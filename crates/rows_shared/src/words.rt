@@ -35,6 +35,17 @@ pub fn push_done<E: Display>(out: &mut String, done: &Result<(), E>) -> Result<(
     }
 }
 
+/// Writes how many objects a prune took away, or why it ended early.
+pub fn push_pruned<E: Display>(
+    out: &mut String,
+    pruned: &Result<u64, E>,
+) -> Result<(), AllocError> {
+    match pruned {
+        Ok(removed) => write!(out, "pruned {removed}"),
+        Err(fault) => write!(out, "{fault}"),
+    }
+}
+
 /// Writes what came of a restart, and whether the node is up then.
 pub fn push_restarted<E: Display>(
     out: &mut String,

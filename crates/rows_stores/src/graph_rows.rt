@@ -6,7 +6,8 @@ use anyhow::bail;
 use indexmap::IndexSet;
 use std::alloc::{AllocError, Global};
 use vc_graph::{
-    GraphFault, closure, difference, first_incomplete, is_complete, is_complete_beyond, learn_links,
+    GraphFault, closure, difference, first_incomplete, is_complete, is_complete_beyond,
+    learn_links, present,
 };
 use vc_history::{Generations, HistoryFault, is_ancestor, is_history, is_history_beyond};
 use vc_object::ObjectId;
@@ -88,6 +89,7 @@ fn ask<O: Objects>(source: &mut O, alloc: Global, verb: &str, sides: &Sides) -> 
     let found = match verb {
         "closure" => closure(alloc, source, &sides.include),
         "difference" => difference(alloc, source, &sides.include, &sides.exclude),
+        "present" => return listed(alloc, &present(alloc, source, &sides.include)?),
         "complete" => return yes_or_no(alloc, is_complete(alloc, source, &sides.at(0))?),
         "complete-beyond" => {
             return complete_beyond(source, alloc, &sides.at(0), &sides.exclude);

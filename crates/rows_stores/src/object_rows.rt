@@ -15,6 +15,7 @@ pub fn obey<F: Files>(files: &mut F, alloc: Global, verb: &str, rest: &str) -> A
         "store" => id_or_none(alloc, Some(put(&mut store, alloc, rest)?)),
         "store-zeros" => put_zeros(&mut store, alloc, rest),
         "object" | "find" | "has" => look(&mut store, alloc, verb, &id_of(alloc, rest)?),
+        "remove-object" => yes_or_no(alloc, store.remove(&id_of(alloc, rest)?)?),
         "names" => listed(alloc, &store.names()?),
         "by-prefix" => listed(alloc, &store.by_prefix(&bytes_of(alloc, rest)?)?),
         _ => ref_rows::obey(files, alloc, verb, rest),
