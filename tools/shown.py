@@ -96,15 +96,22 @@ def lines_of(lines, first):
     return None
 
 
+def is_of_type_above(header, text):
+    """Whether an `impl` has methods of a type that stands in the module above: these are named by the type's module."""
+    found = IMPL.fullmatch(header)
+    above = {word for path in re.findall(r"^use super::(.*);$", text, re.M) for word in TOKEN.findall(path)}
+    return bool(found) and " for " not in found[2] and above.issuperset(TOKEN.findall(found[2])[:1])
+
+
 def functions_of(file, text):
     """The functions of a source file, which lies as `rt fmt` lays it out: a brace that closes one stands in its column."""
     module = [it for it in file[len("src/") : -len(".rt")].split("/") if it not in ("lib", "main", "mod")]
-    found, around, lines = [], [], text.split("\n")
+    found, around, lines = [], module, text.split("\n")
     for number, line in enumerate(lines, 1):
         if re.match(r"(?:pub(?:\([^)]*\))? )?(?:impl|trait)\b", line) and not line.rstrip().endswith("}"):
-            around = [named_by(line)]
+            around = [*(module[:-1] if is_of_type_above(line, text) else module), named_by(line)]
         elif line == "}":
-            around = []
+            around = module
         head = re.match(r"( *)(?:pub(?:\([^)]*\))? )?(?:const )?(?:unsafe )?fn (\w+)", line)
         if not head:
             continue
@@ -115,7 +122,7 @@ def functions_of(file, text):
         first = number
         while lines[first - 2].startswith((f"{head[1]}#[", f"{head[1]}///")):
             first -= 1
-        found.append(Function(file, "::".join([*module, *(around if head[1] else []), head[2]]), first, number, *body))
+        found.append(Function(file, "::".join([*(around if head[1] else module), head[2]]), first, number, *body))
     return found
 
 
