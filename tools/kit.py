@@ -2,6 +2,7 @@
 gate, or a proof of some crates (`rt ci`), has kept of the same text, in whatever checkout. Whatever it can't be asked, by another `rt`
 than the one that this was written for, counts as not proved."""
 import contextlib
+import functools
 import hashlib
 import importlib.machinery
 import importlib.util
@@ -13,11 +14,14 @@ from crates import PROGRAM, TOP, Crates, below
 
 
 def load():
-    """`rt` as a module."""
+    """`rt` as a module: it knows how a crate is checked and how an edit is read."""
     path = os.path.realpath(shutil.which("rt"))
     loader = importlib.machinery.SourceFileLoader("rt_of_kit", path)
     module = importlib.util.module_from_spec(importlib.util.spec_from_loader("rt_of_kit", loader))
     loader.exec_module(module)
+    # (some kits go down each way through the crates anew, of which there are a hundred thousand)
+    for name in ("below", "stamp"):
+        setattr(module.rtlib.Crate, name, functools.cache(getattr(module.rtlib.Crate, name)))
     return module
 
 
