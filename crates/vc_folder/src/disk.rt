@@ -56,6 +56,9 @@ pub(crate) struct Disk<R: rt::Files + Syncs<R::File> + AllocGlobal + Clone + Dro
     folders: BTreeSet<String>,
     // Folders of paths that were seen to be folders, and no links.
     seen: BTreeSet<String>,
+    // What was seen in the folder of the file that was taken away last, and keeps that folder there. Where many files of one
+    // folder go, it isn't looked into anew for each.
+    beside: Option<String>,
     // Whether the mark was made that names may not be durable.
     is_marked: bool,
     // Whether it has to stay: it isn't known whether all names are durable, or the mark is another's.
@@ -71,6 +74,7 @@ impl<R: rt::Files + Syncs<R::File> + AllocGlobal + Clone + Drop> Disk<R> {
             syncing: Syncing::new(alloc),
             folders: BTreeSet::new(alloc),
             seen: BTreeSet::new(alloc),
+            beside: None,
             is_marked: false,
             stays_marked: false,
         }
@@ -330,7 +334,21 @@ impl<R: rt::Files + Syncs<R::File> + AllocGlobal + Clone + Drop> Disk<R> {
         if !self.root.remove(place.as_str())? && !was_there {
             return Ok(None);
         }
-        left_over::remove_empty(&self.root, &self.waiting, alloc, path).map(Some)
+        if self.has_beside(path) {
+            return folder_of(alloc, &self.root, path).map(Some);
+        }
+        self.beside = None;
+        let left = left_over::remove_empty(&self.root, &self.waiting, alloc, path)?;
+        self.beside = left.beside;
+        Ok(Some(left.place))
+    }
+
+    // Whether something else was seen in the folder of a path, and was not taken away.
+    fn has_beside(&self, path: &str) -> bool {
+        match &self.beside {
+            Some(other) => other.as_str() != path && are_in_one_folder(other.as_str(), path),
+            None => false,
+        }
     }
 
     pub fn list(&mut self, alloc: Global, prefix: &str) -> io::Result<Vec<String>> {
@@ -450,6 +468,14 @@ impl<R: rt::Files + Syncs<R::File> + AllocGlobal + Clone + Drop> Disk<R> {
     }
 }
 
+// Whether two paths have the same folder.
+fn are_in_one_folder(path: &str, other: &str) -> bool {
+    match (path.rsplit_once('/'), other.rsplit_once('/')) {
+        (Some((folder, _)), Some((same, _))) => folder == same,
+        _ => false,
+    }
+}
+
 // The folder in which a file stands.
 fn folder_of<R: rt::Files + AllocGlobal + Clone + Drop>(
     alloc: Global,
@@ -473,6 +499,7 @@ impl<R: rt::Files + Syncs<R::File> + AllocGlobal + Clone + Drop> Drop for Disk<R
             syncing: _,
             folders: _,
             seen: _,
+            beside: _,
             is_marked: _,
             stays_marked: _,
         } = self;

@@ -1,5 +1,5 @@
 // What a process that was killed leaves in a folder: lock files that nobody waits for, and empty folders.
-use crate::root::{LOCK, Root, Walk};
+use crate::root::{Held, LOCK, Root, Walk};
 use std::alloc::Global;
 use std::collections::BTreeSet;
 use std::io::{self, ErrorKind};
@@ -44,46 +44,91 @@ fn walk_below<R: rt::Files + AllocGlobal + Clone + Drop>(
     Ok(walk)
 }
 
+/// What is left above a file that was taken away.
+#[derive(Drop)]
+pub(crate) struct Left {
+    /// Where the lowest folder stands that stays.
+    pub place: String,
+    /// The path of something that was seen in the file's own folder and keeps it there.
+    pub beside: Option<String>,
+}
+
+// What becomes of a folder from which a file was taken away.
+#[derive(Drop)]
+enum Emptied {
+    Removed,
+    // It stays: for what stands in it at this path, or for another reason.
+    Stays(Option<String>),
+}
+
 /// Removes the folders of a path, from the lowest on, as long as they hold nothing but lock files that were left,
-/// and answers where the lowest one stands that stays.
+/// and answers what is left.
 pub(crate) fn remove_empty<R: rt::Files + AllocGlobal + Clone + Drop>(
     root: &Root<R>,
     waiting: &BTreeSet<String>,
     alloc: Global,
     path: &str,
-) -> io::Result<String> {
+) -> io::Result<Left> {
     let mut below = path;
-    for _ in 0..path.len() {
+    for level in 0..path.len() {
         let Some((folder, _)) = below.rsplit_once('/') else {
             break;
         };
         let place = root.place(alloc, folder)?;
-        if !is_removed(root, waiting, alloc, folder, place.as_str()) {
-            return Ok(place);
+        if let Emptied::Stays(held) = remove_if_empty(
+            root,
+            waiting,
+            alloc,
+            folder,
+            place.as_str(),
+        ) {
+            let beside = if level == 0 { held } else { None };
+            return Ok(Left { place, beside });
         }
         below = folder;
     }
-    Ok(root.path.clone()?)
+    Ok(Left {
+        place: root.path.clone()?,
+        beside: None,
+    })
 }
 
 // Removes a folder, unless it holds something that counts. That it stays, for whatever reason, harms nothing.
-fn is_removed<R: rt::Files + AllocGlobal + Clone + Drop>(
+fn remove_if_empty<R: rt::Files + AllocGlobal + Clone + Drop>(
     root: &Root<R>,
     waiting: &BTreeSet<String>,
     alloc: Global,
     folder: &str,
     place: &str,
-) -> bool {
+) -> Emptied {
     match fs::remove_dir(&root.rt, place) {
-        Ok(()) => return true,
+        Ok(()) => return Emptied::Removed,
         Err(e) if e.kind() == ErrorKind::DirectoryNotEmpty => {}
-        Err(_) => return false,
+        Err(_) => return Emptied::Stays(None),
     }
-    let Ok(Some(locks)) = root.locks_alone(alloc, folder) else {
-        return false;
-    };
-    !is_any_awaited(waiting, &locks)
-        && remove_all(root, alloc, &locks).is_ok()
+    match root.held_in(alloc, folder) {
+        Ok(Held::Locks(locks)) => {
+            if is_removed(root, waiting, alloc, place, &locks) {
+                Emptied::Removed
+            } else {
+                Emptied::Stays(None)
+            }
+        }
+        Ok(Held::More(path)) => Emptied::Stays(Some(path)),
+        Err(_) => Emptied::Stays(None),
+    }
+}
+
+// Removes a folder that holds these lock files alone, unless one of them is awaited.
+fn is_removed<R: rt::Files + AllocGlobal + Clone + Drop>(
+    root: &Root<R>,
+    waiting: &BTreeSet<String>,
+    alloc: Global,
+    place: &str,
+    locks: &[String],
+) -> bool {
+    !is_any_awaited(waiting, locks)
+        && remove_all(root, alloc, locks).is_ok()
         && fs::remove_dir(&root.rt, place).is_ok()
 }
 

@@ -29,6 +29,15 @@ pub(crate) struct Walk {
     pub folders: Vec<String>,
 }
 
+/// What a folder holds.
+#[derive(Drop)]
+pub(crate) enum Held {
+    /// Nothing but lock files, at these paths.
+    Locks(Vec<String>),
+    /// Something else, at this path.
+    More(String),
+}
+
 impl Walk {
     pub fn new(alloc: Global) -> Self {
         Walk {
@@ -174,19 +183,20 @@ impl<R: rt::Files + AllocGlobal + Clone + Drop> Root<R> {
         Ok(())
     }
 
-    /// The paths of the lock files in a folder that holds nothing else, or none where it holds more.
-    pub fn locks_alone(&self, alloc: Global, folder: &str) -> io::Result<Option<Vec<String>>> {
+    /// What a folder holds: its lock files, or the first thing that is none.
+    pub fn held_in(&self, alloc: Global, folder: &str) -> io::Result<Held> {
         let place = self.place(alloc, folder)?;
         let mut locks = Vec::new(alloc);
         for entry in fs::read_dir(&self.rt, place.as_str())? {
             let entry = entry?;
             let name = entry.file_name();
+            let path = format!(in alloc; "{folder}/{name}")?;
             if !name.ends_with(LOCK) || entry.file_type()?.is_dir() {
-                return Ok(None);
+                return Ok(Held::More(path));
             }
-            locks.push(format!(in alloc; "{folder}/{name}")?)?;
+            locks.push(path)?;
         }
-        Ok(Some(locks))
+        Ok(Held::Locks(locks))
     }
 }
 
