@@ -96,6 +96,7 @@ deed_senders senders m c (deed.Atomic n) eight below each j = each j
 deed_senders senders m c (deed.AtomicRefused name reason) eight below each j = each j
 deed_senders senders m c (deed.Moved moved left) eight below each j = each j
 deed_senders senders m c (deed.Reported moved refused) eight below each j = each j
+deed_senders senders m c (deed.Removed n) eight below each j = each j
 
 -- what they name is one of the clones
 deed_known : (senders : List ℕ) (c n : ℕ) (d : Deed) → length senders ≡ 8 → c < n → ((j : ℕ) → unwrap_or (slice_get senders j) 0 < n) → (j : ℕ) → unwrap_or (slice_get (senders_done c d senders) j) 0 < n
@@ -115,6 +116,7 @@ deed_known senders c n (deed.Atomic m) eight there each j = each j
 deed_known senders c n (deed.AtomicRefused name reason) eight there each j = each j
 deed_known senders c n (deed.Moved moved left) eight there each j = each j
 deed_known senders c n (deed.Reported moved refused) eight there each j = each j
+deed_known senders c n (deed.Removed m) eight there each j = each j
 
 end_senders : (m : FinMap nat_cmp ℕ) (c : ℕ) (e : Ended) → senders_after m c (answer_of e) ≡ m
 end_senders m c (ended.Refused n) = refl

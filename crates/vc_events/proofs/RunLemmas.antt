@@ -72,6 +72,7 @@ sent_event (event.Deliver k) sent = tt
 sent_event (event.Step s) sent = tt
 sent_event (event.Compare p first second) sent = tt
 sent_event (event.Pack p) sent = tt
+sent_event (event.Prune p) sent = tt
 sent_event (event.Restart p) sent = tt
 sent_event (event.Stop p writes) sent = tt
 sent_event (event.Forge (mail.ToShared from bytes)) sent = tt

@@ -9,7 +9,7 @@ use Rattle.vc_model.specs.Message.{Message}
 use Rattle.vc_model.specs.Node.{Answer, Failure, Reply}
 use Rattle.vc_model.specs.Node.Answer.{Declined, Did, Fault}
 use Rattle.vc_model.specs.Node.Failure.{Device, Memory}
-use Rattle.vc_model.specs.Node.Reply.{Differs, Made, MigratedAll, Moved, Opened, Passed, RefusedAll, Reported, Same, Sends, Stored, Updated, UpdatedAll}
+use Rattle.vc_model.specs.Node.Reply.{Differs, Made, MigratedAll, Moved, Opened, Passed, RefusedAll, Removed, Reported, Same, Sends, Stored, Updated, UpdatedAll}
 use Rattle.vc_model.specs.Shared.{slot_count}
 use Rattle.vc_rules.specs.Verdicts.{machine_reason}
 use Rattle.vc_events.specs.declared.answers.Answer.{Answer as WorldAnswer}
@@ -34,6 +34,7 @@ reply_of (deed.Atomic n) = UpdatedAll n
 reply_of (deed.AtomicRefused name reason) = RefusedAll name.items (machine_reason reason)
 reply_of (deed.Moved moved left) = Moved moved left
 reply_of (deed.Reported moved refused) = Reported moved refused.items
+reply_of (deed.Removed n) = Removed n
 
 abbrev pub failure_of : FilesFault → Failure
 failure_of files.Memory = Memory

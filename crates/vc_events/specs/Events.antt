@@ -4,7 +4,7 @@ use Rattle.std.specs.List.{starts_with}
 use Rattle.std.specs.Prelude.{◌≡◌, ◌≢◌, ◌<◌, ℕ, true, nat_eq, List, [], map, option_map, Vec, codes}
 use Rattle.vc_model.specs.ExactWorld.{Letter as MachineLetter, WorldEvent}
 use Rattle.vc_model.specs.ExactWorld.Letter.{FromClone, FromShared}
-use Rattle.vc_model.specs.ExactWorld.WorldEvent.{Compares, Delivers, Forges, Orders, Packs, Restarts, Steps, Stops}
+use Rattle.vc_model.specs.ExactWorld.WorldEvent.{Compares, Delivers, Forges, Orders, Packs, Prunes, Restarts, Steps, Stops}
 use Rattle.vc_model.specs.Order.{Expression, NamedItem as MachineItem, Order as MachineOrder}
 use Rattle.vc_model.specs.Order.Order.{BranchAt, CommitIndex, DropBranch, Fetch, HeadAt, HeadOn, LoadIndex, PushItems, StageFile, StoreObject, UnstageFile}
 use Rattle.vc_model.specs.World.{Party as MachineParty}
@@ -54,6 +54,7 @@ event_of (event.Deliver k) = Delivers k
 event_of (event.Step s) = Steps s
 event_of (event.Compare p first second) = Compares (party_of p) first.items second.items
 event_of (event.Pack p) = Packs (party_of p)
+event_of (event.Prune p) = Prunes (party_of p)
 event_of (event.Restart p) = Restarts (party_of p)
 event_of (event.Stop p writes) = Stops (party_of p) writes
 event_of (event.Forge l) = Forges (letter_of l)
@@ -86,6 +87,7 @@ abbrev pub IsInWorld : ℕ → Event → Type 0
 IsInWorld n (event.Order c o) = (c < n) × IsInOrder o
 IsInWorld n (event.Compare p first second) = IsParty n p
 IsInWorld n (event.Pack p) = IsParty n p
+IsInWorld n (event.Prune p) = IsParty n p
 IsInWorld n (event.Restart p) = IsParty n p
 IsInWorld n (event.Stop p writes) = IsParty n p
 IsInWorld n (event.Forge l) = IsEnd n l

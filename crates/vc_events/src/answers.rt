@@ -32,6 +32,8 @@ pub enum Deed {
     Moved(usize, usize),
     /// A report was taken: so many refs moved, and these numbers refused the other commands, in order.
     Reported(usize, Vec<u16>),
+    /// So many objects that nothing needs were removed.
+    Removed(u64),
 }
 
 /// What a node says of a call that it answered.

@@ -2,11 +2,11 @@
 ghost use Rattle.std.specs.Prelude.{ℕ};
 ghost use Rattle.vc_message.specs.Machine.{IsUnread, Reads};
 ghost use Rattle.vc_model.specs.Clone.{CloneNode};
-ghost use Rattle.vc_model.specs.CloneCall.CloneCall.{Asks, Open, Receive};
+ghost use Rattle.vc_model.specs.CloneCall.CloneCall.{Asks, Open, Prune, Receive};
 ghost use Rattle.vc_model.specs.Message.{Message};
 ghost use Rattle.vc_model.specs.Question.Question.{Compare, PackRefs, Unread};
 ghost use Rattle.vc_model.specs.Shared.{SharedNode};
-ghost use Rattle.vc_model.specs.SharedCall.SharedCall.{Accept, Asks as AsksShared, Open as OpenShared, StepOf};
+ghost use Rattle.vc_model.specs.SharedCall.SharedCall.{Accept, Asks as AsksShared, Open as OpenShared, Prune as PruneShared, StepOf};
 ghost use Rattle.vc_events.specs.Answers.{Shows};
 ghost use Rattle.vc_events.specs.Calls.{CloneCalled, Seen, SharedCalled, StopsNode, IsOrdered, IsOnly};
 ghost use Rattle.vc_events.specs.Events.{IsInOrder};
@@ -38,6 +38,10 @@ pub trait SharedCalls {
     /// It puts its refs into one file.
     fn pack(&mut self) -> Result<Told, Ended>
         ensures answers { honest → SharedCalled seen (AsksShared PackRefs) (Shows result) self.old self.new };
+
+    /// It removes the objects that nothing needs.
+    fn prune(&mut self) -> Result<Told, Ended>
+        ensures answers { honest → SharedCalled seen PruneShared (Shows result) self.old self.new };
 
     /// It starts anew over what it has stored.
     fn reopen(&mut self) -> Result<Told, Ended>
@@ -73,6 +77,10 @@ pub trait CloneCalls {
     /// It puts its refs into one file.
     fn pack(&mut self) -> Result<Told, Ended>
         ensures answers { honest → CloneCalled seen (IsOnly (Asks PackRefs)) (Shows result) self.old self.new };
+
+    /// It removes the objects that nothing needs.
+    fn prune(&mut self) -> Result<Told, Ended>
+        ensures answers { honest → CloneCalled seen (IsOnly Prune) (Shows result) self.old self.new };
 
     /// It starts anew over what it has stored.
     fn reopen(&mut self) -> Result<Told, Ended>

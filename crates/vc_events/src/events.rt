@@ -39,8 +39,8 @@ pub enum Order {
     Load(Vec<u8>),
     /// Asks for the shared node's refs.
     Fetch,
-    /// Pushes items: whether all refs are to be set or none, and the items.
-    Push(bool, Vec<NamedItem>),
+    /// Pushes items, one or more. An atomic push sets all its refs or none.
+    Push { atomic: bool, items: Vec<NamedItem> },
 }
 
 /// What may happen.
@@ -56,6 +56,8 @@ pub enum Event {
     Compare(Party, Vec<u8>, Vec<u8>),
     /// A node puts its refs into one file.
     Pack(Party),
+    /// A node removes the objects that nothing needs.
+    Prune(Party),
     /// A node starts anew over what it has stored, with no stop set.
     Restart(Party),
     /// So many more writes pass at a node, and the next one fails.

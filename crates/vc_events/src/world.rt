@@ -1,6 +1,6 @@
 // The world and its events.
 ghost use Rattle.std.specs.Prelude.{◌≡◌, ◌⊎◌, ◌<◌, Bool, All, IfErr, IfOk, OnErr, OnOk, vec_len, vec_capacity, length};
-ghost use Rattle.vc_model.specs.ExactWorld.WorldEvent.{Orders, Delivers, Forges, Steps as StepsPush, Stops, Compares, Packs, Restarts};
+ghost use Rattle.vc_model.specs.ExactWorld.WorldEvent.{Orders, Delivers, Forges, Steps as StepsPush, Stops, Compares, Packs, Prunes, Restarts};
 ghost use Rattle.vc_events.specs.Events.{event_of, letter_of, order_of, party_of, IsEnd, IsInOrder, IsInWorld, IsParty};
 ghost use Rattle.vc_events.specs.Running.{GoesOn, Lengthens, RunsSafely, done_of, said_of};
 ghost use Rattle.vc_events.specs.World.{AreFresh, Steps, IsFull, IsSame, IsNewWorld};
@@ -121,6 +121,7 @@ impl<S: SharedCalls, C: CloneCalls> World<S, C> {
             Event::Step(slot) => self.advance(*slot),
             Event::Compare(party, first, second) => self.compare(alloc, *party, first, second),
             Event::Pack(party) => self.pack(*party),
+            Event::Prune(party) => self.prune(*party),
             Event::Restart(party) => self.restart(*party),
             Event::Stop(party, writes) => self.stop(*party, *writes),
             Event::Forge(letter) => self.forge(letter),
@@ -209,6 +210,25 @@ impl<S: SharedCalls, C: CloneCalls> World<S, C> {
             }
             Party::Clone(clone) => {
                 let called = self.clones[clone].pack();
+                from_clone(&mut self.letters, clone, called)
+            }
+        }
+    }
+
+    // A node removes the objects that nothing needs.
+    fn prune(&mut self, party: Party) -> Answer
+        requires there { IsParty (vec_len self.old.clones) party }
+        requires room { vec_len self.old.letters < vec_capacity self.old.letters }
+        ensures steps { S.honest → C.honest → Steps S.seen C.seen self.old (Prunes (party_of party)) result self.new }
+        ensures clones { vec_len self.new.clones ≡ vec_len self.old.clones }
+    {
+        match party {
+            Party::Shared => {
+                let called = self.shared.prune();
+                from_shared(&mut self.letters, &mut self.senders, 0, called)
+            }
+            Party::Clone(clone) => {
+                let called = self.clones[clone].prune();
                 from_clone(&mut self.letters, clone, called)
             }
         }

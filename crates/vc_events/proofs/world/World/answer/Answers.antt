@@ -23,6 +23,9 @@ returns-in-Compare-clause-steps g c shared clone = other_event g.S.SharedCalls.s
 pub returns-in-Pack-clause-steps : goal.returns-in-Pack-clause-steps
 returns-in-Pack-clause-steps g c shared clone = other_event g.S.SharedCalls.seen g.C.CloneCalls.seen _ _ _ _ _ (ap event_of c.in-Pack.is) (c.pack.ensures.steps shared clone)
 
+pub returns-in-Prune-clause-steps : goal.returns-in-Prune-clause-steps
+returns-in-Prune-clause-steps g c shared clone = other_event g.S.SharedCalls.seen g.C.CloneCalls.seen _ _ _ _ _ (ap event_of c.in-Prune.is) (c.prune.ensures.steps shared clone)
+
 pub returns-in-Restart-clause-steps : goal.returns-in-Restart-clause-steps
 returns-in-Restart-clause-steps g c shared clone = other_event g.S.SharedCalls.seen g.C.CloneCalls.seen _ _ _ _ _ (ap event_of c.in-Restart.is) (c.restart.ensures.steps shared clone)
 
