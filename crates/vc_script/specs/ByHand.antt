@@ -2,7 +2,7 @@
 use Rattle.std.specs.Prelude.{◌≡◌, ℕ, true, false, List, [], ◌∷◌, codes, Some, None}
 use Rattle.vc_model.specs.ExactWorld.{WorldEvent}
 use Rattle.vc_model.specs.ExactWorld.Letter.{FromClone, FromShared}
-use Rattle.vc_model.specs.ExactWorld.WorldEvent.{Compares, Delivers, Forges, Orders, Packs, Restarts, Steps, Stops}
+use Rattle.vc_model.specs.ExactWorld.WorldEvent.{Compares, Delivers, Forges, Orders, Packs, Prunes, Restarts, Steps, Stops}
 use Rattle.vc_model.specs.Order.{Order}
 use Rattle.vc_model.specs.Order.Order.{BranchAt, CommitIndex, DropBranch, Fetch, HeadAt, HeadOn, LoadIndex, PushItems, StageFile, StoreObject, UnstageFile}
 use Rattle.vc_model.specs.World.Party.{TheClone, TheShared}
@@ -55,6 +55,8 @@ EventsByHand =
     × Tells (codes "shared same r s") (Compares TheShared (codes "r") (codes "s"))
     × Tells (codes "c0 pack") (Packs (TheClone 0))
     × Tells (codes "shared pack") (Packs TheShared)
+    × Tells (codes "c11 prune") (Prunes (TheClone 11))
+    × Tells (codes "shared prune") (Prunes TheShared)
     × Tells (codes "stop shared 0") (Stops TheShared 0)
     × Tells (codes "stop c11 012") (Stops (TheClone 11) 12)
     × Tells (codes "forge shared c3 4a6B") (Forges (FromClone 3 (codes "Jk")))
@@ -69,6 +71,9 @@ RefusedByHand =
     × TellsNothing (codes "c0 push")
     × TellsNothing (codes "c0 push-atomic")
     × TellsNothing (codes "c0 pack all")
+    × TellsNothing (codes "c12 prune")
+    × TellsNothing (codes "shared prune now")
+    × TellsNothing (codes "prune shared")
     × TellsNothing (codes "c0 head b..c")
     × TellsNothing (codes "c0 write blob 4a6")
     × TellsNothing (codes "step 1234567890")

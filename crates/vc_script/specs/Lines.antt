@@ -4,7 +4,7 @@ use Rattle.std.specs.Str.{bytes_eq}
 use Rattle.hex.specs.Hex.{decode_of}
 use Rattle.vc_model.specs.ExactWorld.{Letter, WorldEvent}
 use Rattle.vc_model.specs.ExactWorld.Letter.{FromClone, FromShared}
-use Rattle.vc_model.specs.ExactWorld.WorldEvent.{Compares, Delivers, Forges, Orders, Packs, Restarts, Steps, Stops}
+use Rattle.vc_model.specs.ExactWorld.WorldEvent.{Compares, Delivers, Forges, Orders, Packs, Prunes, Restarts, Steps, Stops}
 use Rattle.vc_model.specs.Order.{Order}
 use Rattle.vc_model.specs.Order.Order.{BranchAt, CommitIndex, DropBranch, Fetch, HeadAt, HeadOn, LoadIndex, PushItems, StageFile, StoreObject, UnstageFile}
 use Rattle.vc_model.specs.World.{Party}
@@ -185,6 +185,10 @@ unfoldable pub pack_in : Party → List (List ℕ) → Option WorldEvent
 pack_in party [] = Some (Packs party)
 pack_in party (word ∷ others) = None
 
+unfoldable pub prune_in : Party → List (List ℕ) → Option WorldEvent
+prune_in party [] = Some (Prunes party)
+prune_in party (word ∷ others) = None
+
 -- the shared node takes no orders
 unfoldable pub ordered : Party → List ℕ → List (List ℕ) → Option WorldEvent
 ordered TheShared verb others = None
@@ -195,6 +199,7 @@ asked_in party [] = None
 asked_in party (verb ∷ others) =
     if bytes_eq verb (codes "same") then compare_in party others
     else if bytes_eq verb (codes "pack") then pack_in party others
+    else if bytes_eq verb (codes "prune") then prune_in party others
     else ordered party verb others
 
 unfoldable pub node_event : ℕ → List ℕ → List (List ℕ) → Option WorldEvent

@@ -69,6 +69,7 @@ deed_words (deed.Atomic n) = codes "atomic ok " ++ decimal n
 deed_words (deed.AtomicRefused name reason) = atomic_words name.items reason
 deed_words (deed.Moved moved left) = moved_words moved
 deed_words (deed.Reported moved refused) = moved_words moved ++ refused_words refused.items
+deed_words (deed.Removed n) = codes "pruned " ++ decimal n
 
 abbrev pub fault_words : Fault → List ℕ
 fault_words fault.Memory = codes "fault memory"

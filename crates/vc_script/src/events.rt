@@ -1,7 +1,7 @@
 //! The event that a line tells.
 ghost use Rattle.std.specs.Prelude.{◌≡◌, ℕ, option_map, IfOk, IfSome};
 ghost use Rattle.vc_events.specs.Events.{event_of, IsEnd, IsInWorld, IsParty, letter_of, party_of};
-ghost use Rattle.vc_script.specs.Lines.{asked_in, compare_in, deliver_in, event_in, forge_in, forged, letter_in, line_event, node_event, ordered, pack_in, restart_in, step_in, stop_in};
+ghost use Rattle.vc_script.specs.Lines.{asked_in, compare_in, deliver_in, event_in, forge_in, forged, letter_in, line_event, node_event, ordered, pack_in, prune_in, restart_in, step_in, stop_in};
 ghost use Rattle.vc_script.specs.Words.{texts};
 
 use crate::orders::{decoded_in, order_in};
@@ -113,6 +113,19 @@ fn pack_in(party: Party, words: &[&[u8]]) -> Option<Event>
     Some(Event::Pack(party))
 }
 
+// The node removes the objects that nothing needs.
+#[tactic(auto, unfolding(crate::specs::Lines::prune_in))]
+fn prune_in(party: Party, words: &[&[u8]]) -> Option<Event>
+    ensures event { option_map event_of result ≡ prune_in (party_of party) (texts words.now) }
+    ensures in_world { (n : ℕ) → IsParty n party → IfSome result (IsInWorld n) }
+{
+    if words.is_empty() {
+        Some(Event::Prune(party))
+    } else {
+        None
+    }
+}
+
 // Whether two expressions have one value at the node.
 #[tactic(auto, unfolding(crate::specs::Lines::compare_in))]
 fn compare_in(alloc: Global, party: Party, words: &[&[u8]]) -> Result<Option<Event>, AllocError>
@@ -162,6 +175,9 @@ fn asked_in(alloc: Global, party: Party, words: &[&[u8]]) -> Result<Option<Event
     }
     if verb == b"pack".as_slice() {
         return Ok(pack_in(party, others));
+    }
+    if verb == b"prune".as_slice() {
+        return Ok(prune_in(party, others));
     }
     let found = ordered(alloc, party, verb, others)?;
     Ok(found)

@@ -246,7 +246,7 @@ fn push_in(alloc: Global, atomic: bool, words: &[&[u8]]) -> Result<Option<Order>
     let Some(items) = items_in(alloc, words)? else {
         return Ok(None);
     };
-    Ok(Some(Order::Push(atomic, items)))
+    Ok(Some(Order::Push { atomic, items }))
 }
 
 // What a verb tells with the words after it.

@@ -122,6 +122,7 @@ fn deed_words(alloc: Global, done: &Deed) -> Result<Vec<u8>, AllocError>
         Deed::AtomicRefused(name, reason) => atomic_words(alloc, name, *reason),
         Deed::Moved(count, _) => moved_words(alloc, *count),
         Deed::Reported(count, numbers) => reported_words(alloc, *count, numbers),
+        Deed::Removed(count) => numbered(alloc, b"pruned ", *count),
     }
 }
 
