@@ -364,6 +364,11 @@ unread_writes r Nothing k = tt
 unread_writes r AnAdvert k = tt
 unread_writes r (APack wants refs) k = tt
 
+prune_writes : (r : Repository) (w : Awaited) → CloneWrites git git_rules r w Prune
+prune_writes r Nothing = tt
+prune_writes r AnAdvert = tt
+prune_writes r (APack wants refs) = tt
+
 module _ {F : Type 0} (honest : Type 0) (content : F → FileMap) (failed : F → ℕ) (can_fail : F → Type 0) (left : F → Option ℕ) where
   -- a call that sends or takes messages, or asks for a value
   pub exchange_called : (old new : Held F) (call : CloneCall) (shows : Answer → Option Message → Type 0) (IsDevice : Type 0) (r : Result Told Ended) → honest → call ≢ Open
@@ -437,6 +442,23 @@ module _ {F : Type 0} (honest : Type 0) (content : F → FileMap) (failed : F �
     enough = λ awaited n held s told k differ. suffices_unchanged (content old.files) (content new.files) n.repository s held.shows.spells told keeps.same k differ;
     looks = looks;
   }
+
+  -- a prune
+  pub pruning : (old new : Held F) (said : Result ℕ NodeFault) → Writes honest content failed can_fail left old.files new.files (NodeTellsDevice said)
+      → (old.is_up ≡ false → said ≡ Err node.Down) → (old.is_up ≡ false → new ≡ old) → (old.is_up ≡ true → new.is_up ≡ node_up_after said) → KeepsClean (content old.files) (content new.files)
+      → Spending honest content failed can_fail left Prune old new (NodeTellsDevice said)
+  pruning old new said wear answers_down unchanged up keeps = record {
+    wear = wear;
+    ups = ups_told old new said unchanged up;
+    enough = λ awaited n held. clone_suffices [] (content old.files) (content new.files) old.is_up awaited n held keeps;
+    looks = λ awaited n is held. may awaited n held old.is_up refl;
+  }
+    where
+      may : (awaited : Awaited) (n : CloneNode) → HoldsNode (content old.files) old.is_up awaited n → (b : Bool) → old.is_up ≡ b
+          → (IsSound git n.repository → MayClone git git_rules n Prune) ⊎ Wears failed can_fail left old.files new.files (NodeTellsDevice said)
+      may awaited n held true is_up = inl (λ sound. (awaited, held.shows.live ∙ ap (λ (b : Bool). live_of b awaited) is_up, prune_writes n.repository awaited))
+      may awaited n held false is_down = inr (same_wears failed can_fail left old.files new.files (NodeTellsDevice said) (ap (λ (v : Held F). v.files) (unchanged is_down))
+          (λ device. absurd (subst (λ (r : Result ℕ NodeFault). NodeTellsDevice r) (answers_down is_down) device)))
 
   -- a message that comes, or bytes that are none
   pub receiving : {T : Type 0} (call : CloneCall) (old new : Held F) (said : Result T CloneFault) → Writes honest content failed can_fail left old.files new.files (TellsDevice said)

@@ -184,6 +184,19 @@ module _ {F : Type 0} (honest : Type 0) (content : F → FileMap) (failed : F �
         (λ n is_up held. let s = slots_up content old n is_up held in inl (s.0, s.1, tt));
   }
 
+  -- a prune
+  pub pruning : (old new : SharedText F) (said : Result ℕ NodeFault) → Writes honest content failed can_fail left old.files new.files (NodeTellsDevice said)
+      → (old.is_up ≡ false → said ≡ Err node.Down) → (old.is_up ≡ false → new ≡ old) → (old.is_up ≡ true → new.is_up ≡ node_up_after said) → KeepsClean (content old.files) (content new.files)
+      → Spending honest content failed can_fail left Prune old new (NodeTellsDevice said)
+  pruning old new said wear answers_down unchanged up keeps = record {
+    wear = wear;
+    ups = still_up old.is_up new.is_up (node_up_after said) (NodeTellsDevice said) (λ is_down. ap (λ (v : SharedText F). v.is_up) (unchanged is_down) ∙ is_down) up (node_calm said);
+    enough = λ n held. clean_suffices (content old.files) (content new.files) old.slots old.is_up Prune n held keeps;
+    looks = looks_up Prune old new (NodeTellsDevice said) unchanged
+        (λ is_down device. absurd (subst (λ (r : Result ℕ NodeFault). NodeTellsDevice r) (answers_down is_down) device))
+        (λ n is_up held. let s = slots_up content old n is_up held in inl (s.0, s.1, tt));
+  }
+
   -- what a message may write, and bytes that are none
   push_writes : (r : Repository) (slots : Slots) (m : Message) → IsToWrite m → SharedWrites git r slots (Accept m)
   push_writes r slots (Push atomic fault commands carried) is = tt

@@ -6,6 +6,7 @@ ghost use Rattle.vc_node.specs.CloneFaults.{TellsDevice as CloneTellsDevice, fau
 ghost use Rattle.vc_local.specs.Machine.{done_answer, fault_answer as node_answer, made_answer};
 ghost use Rattle.vc_local.specs.NodeFault.{TellsDevice as NodeTellsDevice};
 ghost use Rattle.vc_local.specs.Told.{FoundAs, RestartedAs};
+ghost use Rattle.vc_pruning.specs.Pruning.{PrunedAs};
 ghost use Rattle.vc_simulation.specs.Nodes.{IsRetold};
 ghost use Rattle.vc_server.specs.Telling.{ended_by};
 ghost use Rattle.vc_shared.specs.Calls.{AcceptedAs, SteppedAs};
@@ -115,6 +116,16 @@ pub(crate) fn restarted(called: Result<(), NodeFault>) -> Result<Told, Ended>
 {
     match called {
         Ok(()) => Ok(Told::Did(Deed::Stored)),
+        Err(fault) => Err(node_end(&fault)),
+    }
+}
+
+/// What a node said of a prune.
+pub(crate) fn pruned(called: Result<u64, NodeFault>) -> Result<Told, Ended>
+    ensures { IsRetold (PrunedAs called) (NodeTellsDevice called) result }
+{
+    match called {
+        Ok(removed) => Ok(Told::Did(Deed::Removed(removed))),
         Err(fault) => Err(node_end(&fault)),
     }
 }

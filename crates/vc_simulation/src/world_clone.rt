@@ -18,7 +18,8 @@ ghost use Rattle.vc_simulation.specs.Nodes.{BeginsAs, IsFaultOf, IsReady, seen_c
 ghost use Rattle.vc_simulation.specs.Values.{AreIds, AreNoIds, AreNotPushed, ArePushed, Called, Fails, FindsThere, HasZero, IsItemFor, IsNoItem, IsNoValue, IsOneMore, IsOneMoreItem, IsValue, Obeys};
 
 use crate::ends::{
-    DOWN, MISSING, NO_EXPRESSION, TOO_MANY, clone_value, done, made, received, restarted, sent,
+    DOWN, MISSING, NO_EXPRESSION, TOO_MANY, clone_value, done, made, pruned, received, restarted,
+    sent,
 };
 use std::alloc::Global;
 use vc_events::{CloneCalls, Deed, Ended, NamedItem, Order, Told};
@@ -389,7 +390,7 @@ impl<F: Files> CloneCalls for WorldClone<FusedFiles<F>> {
             Order::Detach(text) => self.detach(alloc, text),
             Order::Load(text) => self.load(alloc, text),
             Order::Fetch => self.fetch(),
-            Order::Push(atomic, named) => self.push(alloc, *atomic, named),
+            Order::Push { atomic, items } => self.push(alloc, *atomic, items),
         }
     }
 
@@ -420,6 +421,11 @@ impl<F: Files> CloneCalls for WorldClone<FusedFiles<F>> {
     fn pack(&mut self) -> Result<Told, Ended> {
         let called = self.node.pack_refs();
         restarted(called)
+    }
+
+    fn prune(&mut self) -> Result<Told, Ended> {
+        let called = self.node.prune();
+        pruned(called)
     }
 
     // The process that was stopped is another one then, over what it has stored.

@@ -13,7 +13,7 @@ ghost use Rattle.vc_local.specs.Opening.{IsOpenable, OpenableAs};
 ghost use Rattle.vc_simulation.specs.Nodes.{BeginsAs, IsFaultOf, IsReady, opened_shared, seen_shared};
 ghost use Rattle.vc_simulation.specs.Values.{FindsShared, IsValue};
 
-use crate::ends::{DOWN, NO_EXPRESSION, accepted, restarted, shared_value, stepped};
+use crate::ends::{DOWN, NO_EXPRESSION, accepted, pruned, restarted, shared_value, stepped};
 use std::alloc::Global;
 use vc_events::{Deed, Ended, SharedCalls, Told};
 use vc_expression::{ParseFault, parse};
@@ -137,6 +137,11 @@ impl<F: Files> SharedCalls for WorldShared<FusedFiles<F>> {
     fn pack(&mut self) -> Result<Told, Ended> {
         let called = self.node.pack_refs();
         restarted(called)
+    }
+
+    fn prune(&mut self) -> Result<Told, Ended> {
+        let called = self.node.prune();
+        pruned(called)
     }
 
     // The process that was stopped is another one then, over what it has stored.
