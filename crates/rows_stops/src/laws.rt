@@ -1,14 +1,15 @@
-//! What holds of the files of the nodes at each moment: all that a ref reaches is there, the shared node's branches only go forward,
-//! what a clone knows as a branch's value was its value, and refs that are set together have one value.
+//! What holds of the files of the nodes at each moment: all that a ref, HEAD or the index reaches is there, the shared node's branches
+//! only go forward, what a clone knows as a branch's value was its value, and refs that are set together have one value.
 
 use crate::disk::{Disk, OnDisk, counts};
 use anyhow::{Result, bail};
 use std::alloc::Global;
 use vc_graph::first_incomplete;
 use vc_history::{Generations, is_ancestor};
-use vc_object::ObjectId;
+use vc_local::read_index;
+use vc_object::{Mode, ObjectId};
 use vc_refname::RefName;
-use vc_refs::list;
+use vc_refs::{Head, head, list};
 use vc_store::Store;
 
 /// The values that the shared node's branches were seen to have.
@@ -44,25 +45,39 @@ fn value_of(refs: &[(RefName, ObjectId)], name: &str) -> Option<ObjectId> {
     None
 }
 
-fn ids_of(alloc: Global, refs: &[(RefName, ObjectId)]) -> Result<Vec<ObjectId>> {
+// The values of the refs, what HEAD is detached at, and what the index has.
+fn roots_of(
+    alloc: Global,
+    files: &mut OnDisk<'_>,
+    refs: &[(RefName, ObjectId)],
+) -> Result<Vec<ObjectId>> {
     let mut ids = Vec::new(alloc);
     for (_, id) in refs {
         ids.push(*id)?;
     }
+    if let Some(Head::Id(id)) = head(files, alloc)? {
+        ids.push(id)?;
+    }
+    let index = read_index(alloc, files)?;
+    for (_, entry) in index.iter() {
+        if entry.mode != Mode::Commit {
+            ids.push(entry.id)?;
+        }
+    }
     Ok(ids)
 }
 
-// The refs in the files. All that they reach has to be there.
+// The refs in the files. All that they, HEAD and the index reach has to be there.
 fn whole_refs(alloc: Global, files: &mut OnDisk<'_>) -> Result<Vec<(RefName, ObjectId)>> {
     let refs = list(files, alloc)?;
-    let ids = ids_of(alloc, &refs)?;
+    let ids = roots_of(alloc, files, &refs)?;
     match first_incomplete(alloc, &mut Store::new(alloc, files), &ids)? {
         None => Ok(refs),
-        Some(_) => bail!("not all is there that the refs reach"),
+        Some(_) => bail!("not all is there that refs, HEAD and the index reach"),
     }
 }
 
-/// Each disk holds all that its refs reach.
+/// Each disk holds all that its refs, HEAD and index reach.
 pub fn refuse_partial(alloc: Global, disks: &[Disk]) -> Result<()> {
     for disk in disks {
         whole_refs(alloc, &mut OnDisk::seen(disk))?;

@@ -4,7 +4,7 @@
 //! writes, `stops-twice NODE` with a second one in the restart or in what follows, and `fails NODE` with each call of the disk failing
 //! alone. `held` is its answer if each run kept what it has to:
 //!
-//! - After each line all that a ref reaches is there, each branch of the shared node has its last value or one that descends from it,
+//! - After each line all that a ref, HEAD or the index reaches is there, each branch of the shared node has its last value or one that descends from it,
 //!   and what a clone knows as a branch's value was its value. The refs that a row `together` names have one value, or none has one.
 //! - Each answer before the first fault is that of the run without trouble, and the call or the write that fails is told as a fault.
 //! - The node is down then, until it is restarted. It can be restarted, and its files can be opened as another process finds them.
