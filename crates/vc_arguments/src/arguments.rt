@@ -41,6 +41,10 @@ pub enum Task<'a> {
     },
     /// Its terms are told by [`terms_of`].
     RevList,
+    Prune {
+        /// Whether it only tells what would go.
+        dry_run: bool,
+    },
     Local(LocalTask<'a>),
     Remote(RemoteTask),
     World {
@@ -97,6 +101,7 @@ impl Task<'_> {
             Task::MergeBase { .. } => false,
             Task::RevParse { .. } => false,
             Task::RevList => false,
+            Task::Prune { dry_run } => !*dry_run,
             Task::Local(task) => task.is_writer(),
             Task::Remote(_) => true,
             Task::World { .. } => false,
@@ -115,6 +120,7 @@ impl Task<'_> {
             Task::MergeBase { .. } => true,
             Task::RevParse { .. } => true,
             Task::RevList => true,
+            Task::Prune { .. } => true,
             Task::Local(_) => true,
             Task::Remote(_) => true,
             Task::World { .. } => false,

@@ -97,7 +97,7 @@ const REVISION: Argument = Argument {
     help: COMMIT,
 };
 
-const FORMS: [Form; 20] = [
+const FORMS: [Form; 21] = [
     Form {
         name: "init",
         about: "Make a store whose HEAD is refs/heads/main; one that is there stays as it is",
@@ -294,6 +294,20 @@ const FORMS: [Form; 20] = [
         about: "Put all refs into one file, so that many are read at once; none of them changes",
         after: "Example: vcs pack-refs --store .vcs",
         arguments: &[STORE],
+    },
+    Form {
+        name: "prune",
+        about: "Remove each object that no ref, HEAD or file of the index reaches, and print how many went",
+        after: "No object has a time here, so one that was stored a moment ago goes as well, if nothing reaches it: what hash-object --write\nstored and nothing names, and the commits that a branch named before it was set or deleted. What a ref, HEAD or a staged file\nreaches stays. An object that an open push needs stays too: while a server answers on the store, or a fetch or a push of this\nclone is under way, nothing is removed, and the prune is refused (110).\n\nWith --dry-run nothing is removed: each object that would go is printed, its name and its kind, sorted by name. It waits for\nnobody, so what another command stores meanwhile may be among them.\n\nExample: vcs prune --dry-run, then vcs prune",
+        arguments: &[
+            STORE,
+            Argument {
+                id: "dry-run",
+                value: "",
+                given: Given::Flag('n'),
+                help: "Print what would go, and remove nothing",
+            },
+        ],
     },
     Form {
         name: "checkout",

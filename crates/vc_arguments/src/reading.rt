@@ -82,6 +82,9 @@ fn task_of<'a>(name: &str, words: &ArgMatches<'a>) -> Option<Task<'a>> {
             revision: said(words, "rev"),
         },
         "rev-list" => Task::RevList,
+        "prune" => Task::Prune {
+            dry_run: words.get_flag("dry-run"),
+        },
         "serve" => Task::Remote(RemoteTask::Serve {
             port: words.get_one::<u16>("port")?,
             count: words.get_one::<u32>("count")?,

@@ -7,7 +7,7 @@ use Rattle.vc_expression.specs.Printed.{parse_fault_text}
 use Rattle.vc_pkt.specs.declared.fault.PktFault.TheVariants as pkt
 use Rattle.vc_rev.specs.Printed.{rev_fault_text}
 use Rattle.vc_cli.specs.declared.failure.Failure.{Failure}
-use Rattle.vc_cli.specs.declared.failure.Failure.TheVariants.{LocalChange, InTheWay, BadPath, NotText, NoSuchPath, Node, Revision, Syntax, WriteFailed, Unread, Unexpected, BadScript, Usage}
+use Rattle.vc_cli.specs.declared.failure.Failure.TheVariants.{LocalChange, InTheWay, BadPath, NotText, NoSuchPath, Node, Revision, Syntax, WriteFailed, Unread, Unexpected, BadScript, Busy, Usage}
 use Rattle.vc_cli.specs.declared.faults.Faults.{Faults}
 
 -- what a failure is printed as; what the objects, the store, the walks, the names, the refs and a served store print is claimed nowhere
@@ -25,6 +25,7 @@ failure_text (Unread (pkt.BadLength place)) = Some (codes "80 BadLength")
 failure_text (Unread (pkt.BadRecord line)) = Some (codes "81 BadRecord")
 failure_text Unexpected = Some (codes "91 NothingAwaited")
 failure_text BadScript = Some (codes "114 BadScript")
+failure_text (Busy text) = Some (string_bytes text)
 failure_text (Usage text) = Some (string_bytes text)
 failure_text _ = None
 

@@ -72,6 +72,8 @@ pub enum Failure {
     Incomplete(ObjectId),
     /// What was to be played is no script of a world.
     BadScript,
+    /// 110: objects are in use that nothing names yet, so none may be taken away now. The text says where.
+    Busy(String),
     /// The command line asks for what this program doesn't do.
     Usage(String),
     /// Want of memory, or a device that failed.
@@ -124,6 +126,7 @@ impl fmt::Display for Failure {
             Failure::Unexpected => f.write_str(NOTHING_AWAITED),
             Failure::Incomplete(id) => fmt::Display::fmt(&AnswerFault::Incomplete(*id), f),
             Failure::BadScript => fmt::Display::fmt(&ScriptFault::BadScript, f),
+            Failure::Busy(text) => f.write_str(text.as_str()),
             Failure::Usage(text) => f.write_str(text.as_str()),
             Failure::Fault(fault) => fmt::Display::fmt(fault, f),
         }
@@ -145,6 +148,7 @@ impl Failure {
             Failure::BadPath(_) | Failure::NotText(_) => 1,
             Failure::Refused(_) | Failure::ReadFailed | Failure::WriteFailed => 1,
             Failure::Unread(_) | Failure::Unexpected | Failure::Incomplete(_) => 1,
+            Failure::Busy(_) => 1,
             Failure::Node(fault) => node_status(fault),
             Failure::Syntax(ParseFault::Memory)
             | Failure::Store(StoreFault::Fault(_))

@@ -13,4 +13,4 @@ pub use faults::Faults;
 pub use nearby::refuse_second_store;
 pub use output::{id_lines, print_id, print_text};
 pub use repository::{open_store, resolve, resolve_bytes, select};
-pub use writer::only_writer;
+pub use writer::{keep_objects, only_remover, only_writer};

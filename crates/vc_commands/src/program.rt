@@ -27,6 +27,7 @@ use vc_reading::hash_object::{HashObject, hash_object, store_stream};
 use vc_reading::init::init;
 use vc_reading::merge_base::merge_base;
 use vc_reading::pack_refs::pack_refs;
+use vc_reading::prune::{list_going, prune};
 use vc_reading::rev_list::rev_list;
 use vc_reading::rev_parse::rev_parse;
 use vc_reading::show_ref::show_ref;
@@ -205,6 +206,8 @@ where
         Task::ShowRef => show_ref(rt, store, output)?,
         Task::RevParse { revision } => rev_parse(rt, store, revision, output)?,
         Task::RevList => rev_list(rt, store, lists.terms, output)?,
+        Task::Prune { dry_run: true } => list_going(rt, store, output)?,
+        Task::Prune { dry_run: false } => prune(rt, store, output, faults)?,
         Task::MergeBase { first, second } => {
             return merge_base(rt, store, first, second, output);
         }

@@ -8,7 +8,7 @@ use std::io::Write;
 use std::net::Net;
 use std::rt;
 use std::thread::Threads;
-use vc_cli::{Failure, Faults, only_writer, open_store, print_text};
+use vc_cli::{Failure, Faults, keep_objects, only_writer, open_store, print_text};
 use vc_push_items::items_of;
 use vc_transport::{Progress, is_done, report_lines};
 
@@ -19,8 +19,8 @@ fn progress_of<E: Write>(faults: &mut Faults<E>) -> Progress<&mut E>
     Progress::new(&mut faults.stream, faults.is_terminal)
 }
 
-/// Fetches into the clone in this folder from the store that is served at a port, and prints how many refs moved. What could
-/// not be told on a terminal meanwhile is a fault after the answer.
+/// Fetches into the clone in this folder from the store that is served at a port, and prints how many refs moved. Nobody takes objects
+/// from the clone meanwhile. What could not be told on a terminal is a fault after the answer.
 pub fn fetch<R, O, E>(
     rt: &R,
     store: &str,
@@ -34,6 +34,7 @@ where
     E: Write,
 {
     let lock = only_writer(rt, store, faults)?;
+    let _kept = keep_objects(rt, store)?;
     let mut progress = progress_of(faults);
     let moved = match vc_remote::fetch(rt, lock, store, port, &mut progress) {
         Ok(moved) => moved,
@@ -46,8 +47,8 @@ where
 }
 
 /// Pushes from the clone in this folder to the store that is served at a port, prints what became of each item, and tells
-/// whether all were done. If the push is atomic, all were done or none was. What could not be told on a terminal meanwhile is a
-/// fault after the answer.
+/// whether all were done. If the push is atomic, all were done or none was. Nobody takes objects from the clone meanwhile. What could
+/// not be told on a terminal is a fault after the answer.
 pub fn push<R, O, E>(
     rt: &R,
     store: &str,
@@ -69,6 +70,8 @@ where
     if items.is_empty() {
         return Ok(true);
     }
+    // A report names what was pushed, which no ref of the clone need reach until then.
+    let _kept = keep_objects(rt, store)?;
     let mut progress = progress_of(faults);
     let report = match vc_remote::push(rt, lock, store, port, atomic, &items, &mut progress) {
         Ok(report) => report,

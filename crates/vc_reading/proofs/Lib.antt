@@ -1,2 +1,3 @@
 pub mod BodyLemmas
+pub mod GoingLemmas
 pub mod PieceLemmas

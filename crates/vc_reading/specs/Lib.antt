@@ -1,4 +1,6 @@
 pub mod Again
 pub mod AtFault
 pub mod HashObject
+pub mod Pruned
 pub mod Shown
+pub mod Tally

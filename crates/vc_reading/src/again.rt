@@ -86,6 +86,7 @@ where
         Task::World { file } => Ok(Some(file.as_bytes())),
         Task::Init => Ok(None),
         Task::ShowRef => Ok(None),
+        Task::Prune { .. } => Ok(None),
     }
 }
 

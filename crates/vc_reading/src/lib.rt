@@ -11,9 +11,11 @@ mod input;
 pub mod merge_base;
 pub mod pack_refs;
 mod pieces;
+pub mod prune;
 pub mod rev_list;
 pub mod rev_parse;
 pub mod show_ref;
+mod tally;
 
 pub use again::{Lists, line_of_refusal};
 pub use input::{Input, known_length, open_body};

@@ -16,7 +16,7 @@ use vc_folder::{FolderFiles, FolderLock, Syncs};
 enum Part {
     // What a push brought.
     Brought,
-    // An object of the store, which never changes and never goes.
+    // An object of the store, which never changes, and which nobody takes away while a message is answered.
     Object,
     // Whatever else the store has: refs, HEAD, the index.
     Other,

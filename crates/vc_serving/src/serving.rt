@@ -10,6 +10,7 @@ use std::io::{self, BufReader, ErrorKind};
 use std::net::{Net, OpenListener, OpenStream};
 use std::rt;
 use std::thread::Threads;
+use vc_cli::keep_objects;
 use vc_files::Fault;
 use vc_message::{Fallible, IncomingFault};
 use vc_server::{ServeFault, Served, tell};
@@ -144,7 +145,8 @@ fn has_come(skipped: Result<Option<()>, IncomingFault>) -> Result<bool, ServeFau
     }
 }
 
-// Answers what was kept at the store in this folder. All that the node stored is durable then.
+// Answers what was kept at the store in this folder, from which nobody takes objects meanwhile. All that the node stored is durable
+// then.
 fn answer_in<R>(
     rt: &R,
     store: &str,
@@ -155,6 +157,8 @@ where
     R: rt::Files<File = File> + Threads + AllocGlobal + Clone + Drop,
 {
     let alloc = rt.alloc();
+    // Between two steps of a push nothing names yet what was stored of it, and what it leans on a command may have let go.
+    let _kept = keep_objects(rt, store)?;
     let files = ServedFiles::new(rt, store, own)?;
     let mut message = Fallible::new(message);
     let (mut files, answered) = answer_from(alloc, files, &mut message);
