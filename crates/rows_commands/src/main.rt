@@ -6,6 +6,7 @@
 //! # text          a comment
 //! $ vcs words     a command line; behind it stand what it printed, its faults, and a status that isn't 0
 //! < bytes         what the next command line has on standard input
+//! & path          keeps the objects of the store at the path during the next command line, as a server that is at an answer
 //! > path bytes    writes a file, and makes the folders above it
 //! - path          removes a file
 //! ? path          shows a file
@@ -21,7 +22,9 @@ use std::io::{self, BufWriter, ErrorKind, Write};
 use std::net::Net;
 use std::thread::Threads;
 use std::{env, fs, rt};
+use vc_cli::keep_objects;
 use vc_commands::{Faults, Input, run};
+use vc_folder::FolderShare;
 use vc_work_folder::Beside;
 
 fn main(rt: HostRuntime) -> io::Result<()> {
@@ -39,20 +42,32 @@ where
     R: rt::Files<File = File> + Threads + Net + Beside<R> + AllocGlobal + Clone + Drop,
     W: Write,
 {
-    let mut input = Vec::new(rt.alloc());
+    let mut next = Next {
+        input: Vec::new(rt.alloc()),
+        kept: None,
+    };
     for line in script.lines() {
         if let Some(path) = line.strip_prefix("? ") {
             show_file(rt, path, out)?;
         } else {
             writeln!(out, "{line}")?;
-            follow(rt, line, &mut input, out)?;
+            follow(rt, line, &mut next, out)?;
         }
     }
     Ok(())
 }
 
+// What the next command line meets.
+#[derive(Drop)]
+struct Next {
+    // What it has on standard input.
+    input: Vec<u8>,
+    // Whose objects stay meanwhile, if any.
+    kept: Option<FolderShare>,
+}
+
 // Does what a line says. One that is neither blank nor of a known form is a mistake in the script.
-fn follow<R, W>(rt: &R, line: &str, input: &mut Vec<u8>, out: &mut W) -> io::Result<()>
+fn follow<R, W>(rt: &R, line: &str, next: &mut Next, out: &mut W) -> io::Result<()>
 where
     R: rt::Files<File = File> + Threads + Net + Beside<R> + AllocGlobal + Clone + Drop,
     W: Write,
@@ -63,14 +78,22 @@ where
     match form {
         "#" => Ok(()),
         "$" => {
-            run_words(rt, rest, input, out)?;
-            input.clear();
+            run_words(rt, rest, &next.input, out)?;
+            next.input.clear();
+            next.kept = None;
             Ok(())
         }
         "<" => {
-            *input = Vec::unescape_bytes(rt.alloc(), rest)?;
+            next.input = Vec::unescape_bytes(rt.alloc(), rest)?;
             Ok(())
         }
+        "&" => match keep_objects(rt, rest) {
+            Ok(kept) => {
+                next.kept = Some(kept);
+                Ok(())
+            }
+            Err(_) => Err(io::Error::from(ErrorKind::Other)),
+        },
         ">" => write_file(rt, rest),
         "-" => fs::remove_file(rt, rest),
         _ => Err(io::Error::from(ErrorKind::InvalidInput)),

@@ -23,19 +23,21 @@ use crate::answers::{Answer, word};
 use crate::devices::{Device, Host};
 use crate::ids::two;
 use std::io::{BufRead, BufReader, Read};
-use vc_folder::FolderLock;
+use vc_folder::{FolderLock, FolderShare};
 
 // What the rows so far have opened and locked.
 #[derive(Drop)]
 struct Held<R: Host> {
     devices: Vec<Device<R>>,
     locks: Vec<FolderLock<R>>,
+    shares: Vec<FolderShare>,
 }
 
 fn main(rt: HostRuntime) -> anyhow::Result<()> {
     let mut held = Held {
         devices: Vec::new(rt.alloc()),
         locks: Vec::new(rt.alloc()),
+        shares: Vec::new(rt.alloc()),
     };
     print_all(&rt, rt.reader(), &mut held)
 }
@@ -66,6 +68,7 @@ fn obey<R: Host>(rt: &R, held: &mut Held<R>, row: &str) -> Answer {
         "random-refs" => random_refs::agreements(rt.alloc(), rest),
         "random" | "random-numbered" => random::agreements(rt.alloc(), verb, rest),
         "lock" | "try-lock" | "unlock" => lock_rows::obey(rt, &mut held.locks, verb, rest),
+        "share" | "unshare" => lock_rows::obey_share(rt, &mut held.shares, verb, rest),
         _ if verb.starts_with("raw-") => raw::obey(rt, verb, rest),
         _ => devices::obey_all(rt.alloc(), &mut held.devices, verb, rest),
     }
