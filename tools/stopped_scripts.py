@@ -1,9 +1,10 @@
-"""Random scripts of worlds with stops, restarts and forged bytes, for tools/stopped.
+"""Random scripts of worlds with stops, restarts, prunes and forged bytes, for tools/stopped.
 
 A script is one of `world_scripts.py`, with stops and forged bytes among its lines, and a restart some lines after a stop. The model that
 chooses the lines takes each change for one write, so that it mostly knows which messages were sent, and no answer of it is ever
 compared. Before each push its clone is asked which of the values are those that it knows already, so that a branch that was set can be
-told from one that was set to what it was."""
+told from one that was set to what it was. Prunes come with pushes open, with a stop before them or none, and where one is stopped its node
+is restarted and pruned again."""
 import world_model
 import world_scripts
 from world_model import HEADS, PUSHES, TRACKING
@@ -11,7 +12,7 @@ from world_values import Refused
 from world_wire import ZERO, written
 
 WRITES = [0, 0, 0, 1, 1, 1, 2, 2, 3, 3, 4, 5, 6, 8, 12, 20]  # that pass before a stop
-WEIGHTS = {"stop": 12, "forge": 6, "advance": 8, "together": 4}  # beside those of other scripts
+WEIGHTS = {"stop": 12, "forge": 6, "advance": 8, "together": 4, "held": 6, "strand": 6, "cut_prune": 6}  # beside those of other scripts
 MOST_WRITES = 6  # that pass in the update of an atomic push which is stopped
 FEW = 4  # items of a push that are asked for
 
@@ -87,46 +88,37 @@ class Script(world_scripts.Script):
         if TRACKING + name in clone.refs and self.odds(0.8):
             self.order(number, b"branch", name, TRACKING + name)
         self.order(number, b"commit", self.chance.choice(world_scripts.WORDS))
-        self.push_whole(number, name)
-
-    def one_whole_push(self, number):
-        self.push_whole(number, *[self.item(self.world.clones[number]) for _ in range(self.chance.choice([1, 1, 2, 3]))])
+        self.push_whole(number, self.push_verb(), name)
 
     def one_together(self, number):
         """An atomic push of a branch that goes on, of a new one and of a new tag, and a stop somewhere in its update."""
         new = b"new-%d" % len(self.lines)
-        self.one_whole_fetch(number)
-        self.order(number, b"head", b"main")
-        if TRACKING + b"main" in self.world.clones[number].refs:
-            self.order(number, b"branch", b"main", TRACKING + b"main")
-        self.order(number, b"commit", self.chance.choice(world_scripts.WORDS))
+        self.go_on(number, b"main")
         slot = self.open_push(number, PUSHES[1], b"main", b"main:refs/heads/" + new, b"main:refs/tags/" + new)
         if slot is not None:
             self.say(b"step", slot)
             self.say(b"step", slot)
             self.say(b"stop", b"shared", b"%d" % self.chance.randrange(MOST_WRITES))
             self.stopped.setdefault(b"shared", self.chance.randrange(1, 6))
-            self.end_push(slot)
+            self.end_push(number, slot)
 
-    def push_whole(self, number, *items):
-        """A push from its start to its end, or to a fault."""
-        slot = self.open_push(number, self.push_verb(), *items)
-        if slot is not None:
-            self.end_push(slot)
+    def prune_held(self):
+        if self.odds(0.2):
+            self.say(b"stop", b"shared", b"%d" % self.chance.choice(WRITES))
+            self.stopped.setdefault(b"shared", self.chance.randrange(1, 6))
+        self.say(b"shared", b"prune")
 
-    def open_push(self, number, verb, *items):
-        """A push is sent and opened: its slot, or none."""
-        answer = self.order(number, verb, *items)
-        opened = self.say(b"deliver", answer.split()[1]) if answer.startswith(b"sent ") else b""
-        return opened.split()[1] if opened.startswith(b"slot ") else None
-
-    def end_push(self, slot):
-        """The steps of an open push to its end, or to a fault."""
-        answer = self.say(b"step", slot)
-        while not answer.startswith((b"sent ", b"refused ", b"fault ")):
-            answer = self.say(b"step", slot)
-        if answer.startswith(b"sent "):
-            self.say(b"deliver", answer.split()[1])
+    def one_cut_prune(self, number):
+        """A prune with a stop somewhere in it, of a node that has something to lose; then a restart and a prune again."""
+        node = self.node_name(number)
+        if node == b"shared":
+            self.one_strand(number)
+        for _ in range(self.chance.randrange(4) if node != b"shared" else 0):
+            self.one_write(number)
+        self.put(b"stop", node, b"%d" % self.chance.randrange(MOST_WRITES))
+        for words in ((node, b"prune"), (b"restart", node), (node, b"prune")):
+            self.put(*words)
+        self.stopped.pop(node, None)
 
     def one_forge(self, number):
         is_to_shared = self.odds(0.5)

@@ -81,6 +81,7 @@ class World:
         self.slots, self.down, self.stopped, self.deceived = {}, set(), set(), set()
         self.asked = {}  # what was answered, by clone and tracking ref
         self.together = None  # refs that the last line may have changed, all of them or none
+        self.pruned = set()  # nodes to which nothing came since they were pruned
         self.met = Counter()
 
     def addressee(self, words):
@@ -104,6 +105,10 @@ class World:
             insist(answer == wanted, f"{wanted!r} is wanted, and not {answer!r}")
             return {}
         insist(answer not in (DOWN, NO_MESSAGE), f"{answer!r} has no cause")
+        if words[1:] == [b"prune"] and not answer.startswith(b"fault "):
+            self.prune(node, answer)
+            return {}
+        self.pruned.discard(node)
         if words[0] == b"forge" and not answer.startswith(b"refused "):
             self.met["forged messages taken"] += 1
             self.deceived.add(node)  # also if a fault ended it: some of it may be kept
@@ -111,7 +116,17 @@ class World:
             return self.fail(node, words, answer)
         return self.step(int(words[1]), answer) if words[0] == b"step" else self.take(node, words, answer)
 
+    def prune(self, node, answer):
+        """Objects go, and none if there came nothing since the last prune."""
+        count = number_in(answer, b"pruned")
+        insist(answer == b"pruned %d" % count and not (count and node in self.pruned), f"a prune is answered {answer!r}")
+        self.pruned.add(node)
+        self.met["prunes"] += 1
+        self.met["prunes with open pushes"] += node == b"shared" and bool(self.slots)
+        self.met["objects removed"] += count
+
     def restart(self, node):
+        self.pruned.discard(node)
         self.stopped.discard(node)
         self.down.discard(node)
         if node == b"shared":

@@ -12,7 +12,7 @@ import re
 
 import world_values
 import world_wire
-from world_values import FILE, LONGEST_BRANCH, LONGEST_PATH, Refused, Repository, history, in_the_way, is_complete, is_legal, may_stand, name_of, reached
+from world_values import FILE, LONGEST_BRANCH, LONGEST_PATH, OTHER_REPOSITORY, Refused, Repository, history, in_the_way, is_complete, is_legal, may_stand, name_of, reached
 from world_wire import MOST, TEXTS, ZERO
 
 SLOTS = 8
@@ -54,6 +54,17 @@ class Node(Repository):
         """The node is down, as it was before the event; what it stores isn't known if some writes passed."""
         is_unsure = self.left[1] > 0
         vars(self).update(vars(before), is_down=True, is_unsure=is_unsure)
+
+    def needed(self):
+        """The stored objects that refs, HEAD and the index reach through stored ones."""
+        files = [it for mode, it in self.index.values() if mode != OTHER_REPOSITORY]
+        return reached(self.objects, [it for it in [*self.refs.values(), self.head_value(), *files] if it])[0]
+
+    def prune(self):
+        """The objects that nothing needs go: how many."""
+        needed, before = self.needed(), len(self.objects)
+        self.objects = {it: held for it, held in self.objects.items() if it in needed}
+        return b"pruned %d" % (before - len(self.objects))
 
     def changes(self, before):
         """At how many places the node isn't as it was before."""
@@ -216,6 +227,14 @@ class Shared(Node):
         slot = self.slots.index(None)
         self.slots[slot] = Push(clone, commands, carried, is_atomic)
         return b"slot %d" % slot
+
+    def needed(self):
+        """Beside what refs reach, what an open push's commands that nothing refuses yet reach through what is stored and what it carries."""
+        needed = super().needed()
+        for push in filter(None, self.slots):
+            values = [new for (_, new, _), reason in zip(push.commands, push.reasons) if not reason]
+            needed |= reached({**push.carried, **self.objects}, values)[0]
+        return needed
 
     def judge(self, push, old, new, name):
         """What the check refuses a command with, over what is stored and what the push carries."""
@@ -415,6 +434,9 @@ class World:
     def play_pack(self, node):
         return b"done"
 
+    def play_prune(self, node):
+        return self.node(node).prune()
+
     def play_same(self, node, *texts):
         one, other = map(self.node(node).value, texts)
         return b"same" if one == other else b"differ"
@@ -500,8 +522,8 @@ def event_of(words, count):
     if words[0] == b"forge" and len(words) == 4:
         return forged(node_of(words[1], count), node_of(words[2], count), bytes_of(words[3]))
     node, verb, rest = node_of(words[0], count), *words[1:2], words[2:]
-    if verb == b"pack" and not rest:
-        return "pack", node
+    if verb in (b"pack", b"prune") and not rest:
+        return verb.decode(), node
     if verb == b"same" and len(rest) == 2:
         return "same", node, *rest
     insist(node is not None)

@@ -3,12 +3,15 @@ that most of what is asked can be done, and much of the rest is refused for one 
 
 A world has habits of its own: how often each thing happens there. Messages are delivered late, more than once or never; pushes are
 left open, and steps of different ones mixed; now and then a node is restarted. Bytes come that nobody sent: messages that were sent
-before, whole, cut or with a byte changed. Now and then a stop is set, mostly one of which the model knows what comes of it; where it
-doesn't, the script ends soon. One script in twenty-five is none."""
+before, whole, cut or with a byte changed, and pushes that carry only some of what they need. A prune may come between any two lines,
+also between the steps of open pushes, and what nothing reaches is stored before: objects that a clone writes, and those of a push that is
+lost in its middle. Clones also let their branches go while a message is on its way that leans on them. Now and then a stop is set, mostly
+one of which the model knows what comes of it; where it doesn't, the script ends soon. One script in twenty-five is none."""
 import world_model
 import world_wire
-from world_model import HEADS, PUSHES, TO_SHARED, World, event_of
-from world_values import FILE, FOLDER, KINDS, OTHER_REPOSITORY, entry_key
+from world_model import HEADS, PUSHES, TO_SHARED, TRACKING, World, event_of
+from world_values import FILE, FOLDER, KINDS, OTHER_REPOSITORY, entry_key, reached
+from world_wire import ZERO
 
 NAMES = [b"main"] * 8 + [b"side", b"side", b"a", b"a/b", b"a/b/c", b"v1", b"abc", b"dead", b"HEAD", b"origin/main", b"\xc3\xa9"]
 REFS = [b"refs/heads/main"] * 4 + [
@@ -27,7 +30,10 @@ WORDS = [b"A", b"B", b"C", b"one", b"two", b"\xf0\x9f\x8c\x8d"]
 WEIGHTS = {
     "deliver": 26, "step": 20, "commit": 9, "add": 8, "unstage": 2, "branch": 6, "delete": 2, "head": 3, "load": 3, "detach": 1,
     "write": 5, "fetch": 5, "push": 9, "pack": 2, "restart": 1, "same": 4, "whole_fetch": 4, "whole_push": 4, "forge": 4, "stop": 1,
+    "prune": 4, "held": 3, "strand": 3, "lean": 3, "late": 2,
 }
+PRUNING = [0, 0, 0, 0.03, 0.1, 0.3]  # how often a prune comes after a line, whatever it is
+FORGETS = 0.05  # how often a clone lets its branches go while a message is on its way
 LONGEST_FORGED = 4000
 # What may stand after the name in the first line of a push that nobody sent, and how many items one of very many has.
 SAID = [b"", b"atomic", b"atomic ", b" atomic", b"a atomic b", b"report-status-v2  atomic", b"atomics", b"an-atomic", b"atomic=1", b"ATOMIC", b"atomic\0", b"atomic\n"]
@@ -43,6 +49,7 @@ class Script:
         self.world, self.count = World(count), count
         self.lines = [b"world %d" % count]
         self.waiting = []  # messages that are to be delivered once more
+        self.pruning = chance.choice(PRUNING)
         habits = {it: often * chance.choice([0, 0.3, 1, 1, 1, 3]) for it, often in WEIGHTS.items()}
         self.kinds, self.weights = [*habits], [*habits.values()]
 
@@ -50,7 +57,13 @@ class Script:
         return self.chance.random() < share
 
     def say(self, *words):
-        """Writes a line, and gives its answer, or no words where it isn't known."""
+        """Writes a line, and gives its answer, or no words where it isn't known. A prune may come after it."""
+        answer = self.put(*words)
+        if self.odds(self.pruning):
+            self.put(self.chance.choice(self.nodes(self.clone())), b"prune")
+        return answer
+
+    def put(self, *words):
         line = b" ".join(words)
         self.lines.append(line)
         before = len(self.world.messages)
@@ -205,25 +218,108 @@ class Script:
         texts = [self.text(self.world.node(node)) for _ in range(2)]
         self.say(b"shared" if node is None else b"c%d" % node, b"same", *texts)
 
+    def one_prune(self, number):
+        self.say(self.chance.choice(self.nodes(number)), b"prune")
+
+    def forget(self, number):
+        """A clone lets its branches go, and all that they alone reach."""
+        for name in [it for it in self.world.clones[number].refs if it.startswith(HEADS)]:
+            self.order(number, b"delete", name.removeprefix(HEADS))
+        self.order(number, b"head", self.name())
+        self.order(number, b"prune")
+
     def one_whole_fetch(self, number):
         """A fetch from its start to its end, and the branch follows."""
         answer = self.order(number, b"fetch")
         while answer.startswith(b"sent "):
+            if self.odds(FORGETS):
+                self.forget(number)
             answer = self.say(b"deliver", answer.split()[1])
         if self.odds(0.5):
             self.order(number, b"branch", b"main", b"origin/main")
 
+    def items(self, number):
+        return [self.item(self.world.clones[number]) for _ in range(self.chance.choice([1, 1, 2, 3]))]
+
     def one_whole_push(self, number):
-        items = [self.item(self.world.clones[number]) for _ in range(self.chance.choice([1, 1, 2, 3]))]
-        answer = self.order(number, self.push_verb(), *items)
+        self.push_whole(number, self.push_verb(), *self.items(number))
+
+    def push_whole(self, number, verb, *items):
+        """A push from its start to its end, or to a fault."""
+        slot = self.open_push(number, verb, *items)
+        if slot is not None:
+            self.end_push(number, slot)
+
+    def open_push(self, number, verb, *items):
+        """A push is sent and opened: its slot, or none."""
+        answer = self.order(number, verb, *items)
+        opened = self.say(b"deliver", answer.split()[1]) if answer.startswith(b"sent ") else b""
+        return opened.split()[1] if opened.startswith(b"slot ") else None
+
+    def end_push(self, number, slot):
+        """The steps of an open push to its end, or to a fault."""
+        answer = self.say(b"step", slot)
+        while answer and not answer.startswith((b"sent ", b"refused ", b"fault ")):
+            answer = self.say(b"step", slot)
         if answer.startswith(b"sent "):
-            answer = self.say(b"deliver", answer.split()[1])
-        if answer.startswith(b"slot "):
-            slot = answer.split()[1]
-            while answer and not answer.startswith((b"sent ", b"refused ", b"fault ")):
-                answer = self.say(b"step", slot)
-        if answer.startswith(b"sent "):
+            if self.odds(FORGETS):
+                self.forget(number)
             self.say(b"deliver", answer.split()[1])
+
+    def one_held(self, number):
+        """A push with prunes between its steps."""
+        slot = self.open_push(number, self.push_verb(), *self.items(number))
+        if slot is not None:
+            for _ in range(self.chance.randrange(4)):
+                self.say(b"step", slot)
+                self.prune_held()
+            self.end_push(number, slot)
+
+    def prune_held(self):
+        """The shared node is pruned while pushes are open."""
+        self.say(b"shared", b"prune")
+
+    def one_strand(self, number):
+        """A push is lost when all that it brought is stored: nothing reaches it then."""
+        slot = self.open_push(number, self.push_verb(), *self.items(number))
+        if slot is not None:
+            self.say(b"step", slot)
+            if self.say(b"step", slot) == b"migrated":
+                self.say(b"restart", b"shared")
+
+    def go_on(self, number, name):
+        """A commit over what the clone knows of a branch, once it has fetched."""
+        self.one_whole_fetch(number)
+        self.order(number, b"head", name)
+        if TRACKING + name in self.world.clones[number].refs:
+            self.order(number, b"branch", name, TRACKING + name)
+        self.order(number, b"commit", self.chance.choice(WORDS))
+
+    def one_late(self, number):
+        """A clone lets go what a pack leans on: its branch, of whose push it had no report, and on which another clone went on."""
+        self.go_on(number, b"main")
+        slot = self.open_push(number, PUSHES[0], b"main")
+        for _ in range(4 if slot else 0):
+            self.say(b"step", slot)
+        other = self.clone()
+        self.go_on(other, b"main")
+        self.push_whole(other, PUSHES[0], b"main")
+        answer = self.order(number, b"fetch")
+        while answer.startswith(b"sent ") and b"objects" not in answer:
+            answer = self.say(b"deliver", answer.split()[1])
+        if answer.startswith(b"sent "):
+            self.forget(number)
+            self.say(b"deliver", answer.split()[1])
+
+    def one_lean(self, number):
+        """A push that nobody sent carries only some of what its value reaches, so that it leans on what is stored, if that is."""
+        node = self.chance.choice([self.world.shared, self.world.clones[number]])
+        it, share, name = self.kind_id(node, "commit"), self.chance.choice([0, 0.3, 0.7]), self.chance.choice(REFS)
+        carried = {other: node.objects[other] for other in sorted(reached(node.objects, [it])[0]) if self.odds(share)}
+        old = self.world.shared.refs.get(name, ZERO) if self.odds(0.8) else self.object_id(node)
+        text = world_wire.written("push", ([(old, it, name)], carried, self.odds(0.3)))
+        if len(text) <= LONGEST_FORGED:
+            self.say(b"forge", b"shared", b"c%d" % number, text.hex().encode())
 
     def one_write(self, number):
         kind = self.chance.choice(KINDS)
@@ -271,7 +367,7 @@ def damaged(line, chance):
         line + b" ", b" " + line, line + b" x", line + b"\r", b" ".join(words[:-1]), line.replace(b" ", b"  ", 1), b"", line.upper(),
         b"c%d fetch" % chance.choice([16, 99]), b"c01 fetch", b"deliver 1234567890", b"step x", b"restart", b"c0 write blob 4",
         b"c0 write file 41", b"c0 branch %s main" % chance.choice(BAD_NAMES), b"c0 push-atomic", b"c0 push main:%s" % chance.choice([b"HEAD", b"a", b"", b"refs/heads/a..b"]),
-        b"shared fetch", b"world 1", b"c0 same main", b"prune c0", b"stop c0", b"stop shared 1234567890", b"stop c99 0",
+        b"shared fetch", b"world 1", b"c0 same main", b"prune c0", b"prune", b"c0 prune x", b"shared prune c0", b"c99 prune", b"stop c0", b"stop shared 1234567890", b"stop c99 0",
         b"forge shared shared 30", b"forge c0 c0 30", b"forge shared c0 3", b"forge c0 shared 0g", b"forge shared c99 30",
     ])
 
