@@ -82,18 +82,21 @@ def ended(process):
     return process.returncode, printed
 
 
-def exchange(top, words, end=None, hindrance=None):
-    """A command of the clone to the served store, with one end hindered, if any: the status of each end, and what it printed."""
+def exchange(top, words, end=None, hindrance=None, begun=None):
+    """A command of the clone to the served store, with one end hindered, if any: the status of each end, and what it printed. The processes
+    are added to those that were begun."""
     port = free_port()
     words = (words[0], "--port", port, *words[1:])
     serve = ("serve", "--port", port, "--count", "1")
-    server = begin(serve, top / "shared", end == "shared")
+    server, begun = begin(serve, top / "shared", end == "shared"), [] if begun is None else begun
+    begun.append(server)
     told = {}
 
     def use():
         """The clone's end begins once the server listens, or has ended before. A server that nobody came to gets a connection."""
         line = server.stdout.readline()
         clone = begin(words, top / "clone", end == "clone")
+        begun.append(clone)
         if end == "clone":
             tracing.follow(clone, hindrance)
         told["clone"] = ended(clone)

@@ -73,7 +73,8 @@ def faults_after(old, new, printed, files):
     for path in {*old, *new, *files}:
         before, after, now = old.get(path), new.get(path), files.get(path)
         if path.startswith("objects/"):
-            if before is not None and now != before:
+            # (what a prune was to take may be gone)
+            if before is not None and now not in (before, after):
                 yield f"{path} was there, and isn't what it was"
         elif now not in (before, after):
             yield f"{path} is {now!r}, and was {before!r}, and was to be {after!r}"
