@@ -12,6 +12,7 @@ use std::io::{Read, Write};
 use std::net::Net;
 use std::rt;
 use std::thread::Threads;
+use std::time::Clock;
 use vc_arguments::{
     LocalTask, RemoteTask, Request, Task, command, list_of, option_without_folder, request_of,
     terms_of,
@@ -33,6 +34,7 @@ use vc_reading::rev_parse::rev_parse;
 use vc_reading::show_ref::show_ref;
 use vc_reading::{Input, Lists, line_of_refusal};
 use vc_serving::serve;
+use vc_transport::Place;
 use vc_work_folder::Beside;
 use vc_working::work::{checkout, status};
 
@@ -48,7 +50,7 @@ pub fn run<R, S, I, O, E>(
 ) -> u8
 where
     S: AsStr,
-    R: rt::Files<File = File> + Threads + Net + Beside<R> + AllocGlobal + Clone + Drop,
+    R: rt::Files<File = File> + Threads + Net + Clock + Beside<R> + AllocGlobal + Clone + Drop,
     I: Read + Drop,
     O: Write,
     E: Write,
@@ -68,7 +70,7 @@ fn obey<R, S, I, O, E>(
 ) -> Result<u8, Failure>
 where
     S: AsStr,
-    R: rt::Files<File = File> + Threads + Net + Beside<R> + AllocGlobal + Clone + Drop,
+    R: rt::Files<File = File> + Threads + Net + Clock + Beside<R> + AllocGlobal + Clone + Drop,
     I: Read + Drop,
     O: Write,
     E: Write,
@@ -173,7 +175,7 @@ fn perform<R, I, O, E>(
     faults: &mut Faults<E>,
 ) -> Result<bool, Failure>
 where
-    R: rt::Files<File = File> + Threads + Net + Beside<R> + AllocGlobal + Clone + Drop,
+    R: rt::Files<File = File> + Threads + Net + Clock + Beside<R> + AllocGlobal + Clone + Drop,
     I: Read + Drop,
     O: Write,
     E: Write,
@@ -229,21 +231,26 @@ fn exchange<R, O, E>(
     faults: &mut Faults<E>,
 ) -> Result<bool, Failure>
 where
-    R: rt::Files<File = File> + Threads + Net + Beside<R> + AllocGlobal + Clone + Drop,
+    R: rt::Files<File = File> + Threads + Net + Clock + Beside<R> + AllocGlobal + Clone + Drop,
     O: Write,
     E: Write,
 {
     match task {
-        RemoteTask::Serve { port, count } => {
-            serve(rt, store, port, count, output, faults)?;
+        RemoteTask::Serve(serving) => {
+            serve(rt, store, serving, output, faults)?;
             Ok(true)
         }
-        RemoteTask::Fetch { port } => {
-            fetch(rt, store, port, output, faults)?;
+        RemoteTask::Fetch { port, timeout } => {
+            fetch(rt, store, Place { port, timeout }, output, faults)?;
             Ok(true)
         }
-        RemoteTask::Push { port, atomic } => {
-            push(rt, store, port, atomic, items, output, faults)
+        RemoteTask::Push {
+            port,
+            timeout,
+            atomic,
+        } => {
+            let place = Place { port, timeout };
+            push(rt, store, place, atomic, items, output, faults)
         }
     }
 }

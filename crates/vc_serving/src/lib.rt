@@ -6,9 +6,14 @@
 
 mod answering;
 mod command;
+mod home;
 mod own_folder;
 mod served_files;
 mod serving;
+mod settling;
+mod talk;
+mod turn;
 
-pub use answering::{answer_from, make_shared};
+pub use answering::make_shared;
 pub use command::serve;
+pub use turn::serve_once;
