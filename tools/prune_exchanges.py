@@ -22,7 +22,7 @@ from tracing import Hindrance, some_of
 
 PRUNE = ("prune",)
 FLOCK = "73"  # the number of the call that waits for a lock
-UNSEEN = 2  # seconds that one is held for the other where the system doesn't tell what that waits for
+UNSEEN = 2  # seconds that one is held for the other if the system doesn't tell what that waits for
 MANY = 1000  # more than there are
 # The exchanges that are held, and at how many calls. The first is that in which a push has stored what no ref names yet.
 HELD = {"push, the server": MANY, "atomic push, the server": 25, "push, the clone": 12, "fetch, the server": 12, "fetch, the clone": 40}
@@ -32,7 +32,7 @@ PRUNED, BUSY = rb"pruned \d+\n", rb"vcs: 110 .*\n"
 
 
 def waits_for_lock(process):
-    """Whether a process waits for a lock; none where the system doesn't tell."""
+    """Whether a process waits for a lock; none if the system doesn't tell."""
     try:
         return Path(f"/proc/{process.pid}/syscall").read_text().split()[0] == FLOCK
     except OSError:

@@ -1,4 +1,4 @@
-"""What a prune takes away: what `git prune` would, and nothing where something of the store can't be read or is in use. For
+"""What a prune takes away: what `git prune` would, and nothing if something of the store can't be read or is in use. For
 tools/hardships."""
 import fcntl
 import os
@@ -115,7 +115,7 @@ def spoilt(ground, place, way):
 
 
 def bad_files(trials):
-    """Where a root can't be read, or an object that one reaches, nothing goes."""
+    """If a root can't be read, or an object that one reaches, nothing goes."""
     for place in ("HEAD", "index", "refs/heads/main", "packed-refs", f"objects/{BLOB[:2]}/{BLOB[2:]}"):
         with tempfile.TemporaryDirectory() as folder:
             ground = hardships.Ground(Path(folder))

@@ -57,7 +57,7 @@ class Script:
         return self.chance.random() < share
 
     def say(self, *words):
-        """Writes a line, and gives its answer, or no words where it isn't known. A prune may come after it."""
+        """Writes a line, and gives its answer, or no words if it isn't known. A prune may come after it."""
         answer = self.put(*words)
         if self.odds(self.pruning):
             self.put(self.chance.choice(self.nodes(self.clone())), b"prune")

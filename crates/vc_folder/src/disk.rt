@@ -56,7 +56,7 @@ pub(crate) struct Disk<R: rt::Files + Syncs<R::File> + AllocGlobal + Clone + Dro
     folders: BTreeSet<String>,
     // Folders of paths that were seen to be folders, and no links.
     seen: BTreeSet<String>,
-    // What was seen in the folder of the file that was taken away last, and keeps that folder there. Where many files of one
+    // What was seen in the folder of the file that was taken away last, and keeps that folder there. If many files of one
     // folder go, it isn't looked into anew for each.
     beside: Option<String>,
     // Whether the mark was made that names may not be durable.

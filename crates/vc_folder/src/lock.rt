@@ -25,7 +25,7 @@ pub struct FolderLock<R: rt::Files + AllocGlobal + Clone + Drop> {
 }
 
 impl<R: rt::Files<File = File> + AllocGlobal + Clone + Drop> FolderLock<R> {
-    /// Takes the lock at once; none where another process holds it, or a [`FolderShare`](crate::FolderShare).
+    /// Takes the lock at once; none if another process holds it, or a [`FolderShare`](crate::FolderShare).
     pub fn try_take(rt: &R, path: &str) -> Result<Option<Self>, Fault> {
         match lock_alone(rt, path, How::AloneAtOnce) {
             Ok(lock) => Ok(lock),

@@ -28,7 +28,7 @@ pub(crate) struct Locked {
     pub is_new: bool,
 }
 
-/// Locks a folder, which is made where it isn't there, with those above it; none where another process has it locked, and this one
+/// Locks a folder, which is made if it isn't there, with those above it; none if another process has it locked, and this one
 /// doesn't wait.
 pub(crate) fn lock_folder<R: rt::Files<File = File> + AllocGlobal>(
     rt: &R,
@@ -57,7 +57,7 @@ pub(crate) fn lock_folder<R: rt::Files<File = File> + AllocGlobal>(
     Err(io::Error::from(ErrorKind::ResourceBusy))
 }
 
-// Locks an open folder, and says whether it did: not where another process has it locked and this one doesn't wait.
+// Locks an open folder, and says whether it did: not if another process has it locked and this one doesn't wait.
 fn is_locked(folder: &File, how: How) -> io::Result<bool> {
     match how {
         How::Alone => folder.lock()?,

@@ -10,7 +10,7 @@ use vc_files::Fault;
 /// [`FolderLock`](crate::FolderLock), which is for one process alone; it gives no right to write. It is the system's lock on the
 /// folder itself, so nothing is left of it when the process ends, however it ends.
 ///
-/// The folder is made where it isn't there, with those above it, and stays: others may share it by then. Where it may not be made,
+/// The folder is made if it isn't there, with those above it, and stays: others may share it by then. If it may not be made,
 /// nothing can be put into it, and the share is of nothing.
 #[derive(Drop)]
 pub struct FolderShare {

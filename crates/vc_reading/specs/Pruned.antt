@@ -22,7 +22,7 @@ pruned_line count = codes "pruned " ++ (decimal count ++ 10 ∷ [])
 abbrev pub object_line : ObjectId → Kind → List ℕ
 object_line id kind = encode_lower id.0 ++ (32 ∷ (word kind ++ 10 ∷ []))
 
--- the line of the object, where there is one
+-- the line of the object, if there is one
 abbrev pub line_of : ObjectId → Option StoredObject → List ℕ
 line_of id None = []
 line_of id (Some object) = object_line id object.kind

@@ -13,15 +13,15 @@ removed_line count = codes "\rvcs: removed " ++ (decimal count ++ codes " object
 abbrev pub at_stride : ℕ → List ℕ → List ℕ
 at_stride count line = if count % 10000 == 0 then line else []
 
--- what is told where a count grew by one, on a terminal alone
+-- what is told if a count grew by one, on a terminal alone
 abbrev pub counted_text : Bool → ℕ → List ℕ → List ℕ
 counted_text is_terminal count line = if is_terminal then at_stride count line else []
 
--- what is told where one file more was read: nothing once an object was removed
+-- what is told if one file more was read: nothing once an object was removed
 abbrev pub read_text : Bool → ℕ → ℕ → List ℕ
 read_text is_terminal removed read = if removed == 0 then counted_text is_terminal read (read_line read) else []
 
--- what is told where one object more was removed
+-- what is told if one object more was removed
 abbrev pub removed_text : Bool → ℕ → List ℕ
 removed_text is_terminal removed = counted_text is_terminal removed (removed_line removed)
 
@@ -29,6 +29,6 @@ removed_text is_terminal removed = counted_text is_terminal removed (removed_lin
 abbrev pub has_line : ℕ → ℕ → Bool
 has_line read removed = nat_le 10000 read || nat_le 10000 removed
 
--- the end of the last line, where there is one, on a terminal alone
+-- the end of the last line, if there is one, on a terminal alone
 abbrev pub end_text : Bool → ℕ → ℕ → List ℕ
 end_text is_terminal read removed = if is_terminal then (if has_line read removed then 10 ∷ [] else []) else []

@@ -62,7 +62,7 @@ where
     print_going(rt.alloc(), &mut files, output)
 }
 
-/// Removes each object of these files that no ref, HEAD or file of the index reaches, and answers how many these were. Where it ends
+/// Removes each object of these files that no ref, HEAD or file of the index reaches, and returns how many these were. If it ends
 /// early, some of them are gone, and no other file differs.
 pub fn prune_in<F: Files>(alloc: Global, files: &mut F) -> Result<u64, Failure>
     ensures pruned { F.honest → IfOk result (Prunes (IsReached git) (F.content files.old) (F.content files.new)) }

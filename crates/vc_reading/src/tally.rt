@@ -12,7 +12,7 @@ use vc_files::{Fault, Files};
 const STRIDE: u64 = 10_000;
 
 /// Tells a person how many files were read, and then how many objects were removed, on a terminal alone: nothing of the first 9,999,
-/// and then a line that replaces itself with each further 10,000. Where the terminal can't be written to, the work goes on untold.
+/// and then a line that replaces itself with each further 10,000. If the terminal can't be written to, the work goes on untold.
 #[derive(Drop)]
 pub(crate) struct Tally<W> {
     stream: W,
@@ -24,7 +24,7 @@ pub(crate) struct Tally<W> {
 }
 
 impl<W: Write> Tally<W> {
-    /// Nothing was read yet. Lines go to the stream where it is a terminal.
+    /// Nothing was read yet. Lines go to the stream if it is a terminal.
     pub(crate) fn new(stream: W, is_terminal: bool) -> Tally<W>
         ensures start { (result.stream ≡ stream) × (result.is_terminal ≡ is_terminal) × (result.read ≡ 0) × (result.removed ≡ 0) }
         ensures told { IsOk result.told }
@@ -83,7 +83,7 @@ impl<W: Write> Tally<W> {
         }
     }
 
-    // Whether a line was told, where somebody was.
+    // Whether a line was told, if somebody was.
     fn has_line(&self) -> bool
         ensures { result ≡ has_line self.now.read self.now.removed }
     {
