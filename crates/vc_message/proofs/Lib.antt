@@ -11,5 +11,7 @@ pub mod SourceLaws
 pub mod IncomingReads
 pub mod IncomingLaws
 pub mod StreamingLaws
+pub mod KeepingLaws
+pub mod BoundedLaws
 pub mod IncomingFronts
 pub mod ComingLaws

@@ -3,8 +3,10 @@ pub mod AnyView
 pub mod Machine
 pub mod IncomingFault
 pub mod Source
+pub mod Keeping
 pub mod Incoming
 pub mod Coming
 pub mod Streaming
+pub mod Bounded
 pub mod Read
 pub mod Told

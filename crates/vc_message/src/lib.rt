@@ -4,8 +4,10 @@
 //! this project differs, the comment begins with `own:`.
 #![tactic(auto)]
 
+mod bounded;
 mod incoming;
 mod incoming_fault;
+mod keeping;
 mod laws;
 mod message;
 mod reader;
@@ -13,8 +15,10 @@ mod skipping;
 mod source;
 mod streaming;
 
+pub use bounded::{Bound, read_head_within, skip_within};
 pub use incoming::read_message;
 pub use incoming_fault::IncomingFault;
+pub use keeping::{keep_message, kept_bytes_are_the_message};
 pub use laws::{
     every_reading, one_message, one_reading, one_writing, read_or_unread, what_is_read_is_named,
     written_message_is_read,

@@ -10,7 +10,8 @@ use Rattle.vc_model.specs.Shared.{SharedEvent, SharedStep}
 use Rattle.vc_model.specs.Rules.{Rules, rules_by}
 use Rattle.vc_model.specs.Exact.{shared_event}
 use Rattle.vc_model.specs.Shared.SharedEvent.{Arrives, StepSlot, PruneShared, RestartShared, QuietShared}
-use Rattle.vc_model.specs.Desk.{Served, Log, node_after, IsServed, IsWell, IsAt, WasThere, NoneCollide, OpensSound, DeskClosed, DeskForward, ExactLog, node_left, IsAnswered, served, ExactLogIsLog}
+use Rattle.vc_model.specs.Repository.{IsSound, IsBare}
+use Rattle.vc_model.specs.Desk.{Served, Receipt, Log, node_after, IsServed, IsWell, IsAt, WasThere, NoneCollide, OpensSound, DeskClosed, DeskForward, ExactLog, node_left, IsAnswered, served, ExactLogIsLog}
 use Rattle.vc_model.specs.Desk.IsAt.{in_store, in_push}
 use Rattle.vc_model.specs.Keeping.{Arrived, SharedKept}
 use Rattle.vc_model.proofs.Maps.{none_in_empty}
@@ -101,11 +102,11 @@ desk_forward fmt start late early b x h r one v = desk_forward_from fmt start la
 
 -- ---- an exact log
 
-node_of_log : (start : Node Slots) (es : ExactLog) → node_after start (map served es) ≡ node_left start es
+pub node_of_log : (start : Node Slots) (es : ExactLog) → node_after start (map served es) ≡ node_left start es
 node_of_log start [] = refl
 node_of_log start (e ∷ es) = refl
 
-exact_log : (fmt : Format) (rules : Rules fmt) (start : Node Slots) (es : ExactLog) → IsAnswered fmt rules start es → IsServed fmt start (map served es)
+pub exact_log : (fmt : Format) (rules : Rules fmt) (start : Node Slots) (es : ExactLog) → IsAnswered fmt rules start es → IsServed fmt start (map served es)
 exact_log fmt rules start [] h = tt
 exact_log fmt rules start (e ∷ es) h = (
   h.0,
@@ -116,3 +117,14 @@ exact_log fmt rules start (e ∷ es) h = (
 
 pub exact_log_is_log : ExactLogIsLog
 exact_log_is_log fmt tests start es h = exact_log fmt (rules_by fmt tests) start es h
+
+-- A node that an exact log leads to is sound and bare, if the log begins at a sound node and no names collide in it.
+pub exact_log_stays_sound : (fmt : Format) (rules : Rules fmt) (start : Node Slots) (es : ExactLog) → OpensSound fmt start → IsAnswered fmt rules start es → NoneCollide fmt start (map served es)
+    → IsSound fmt (node_left start es).repository × IsBare fmt (node_left start es).repository
+exact_log_stays_sound fmt rules start es h answered one =
+    let k : SharedKept fmt (Was fmt start (map served es)) (node_after start (map served es)) = log_keeps fmt start (map served es) h (exact_log fmt rules start es answered) one in
+    subst (λ (n : Node Slots). IsSound fmt n.repository × IsBare fmt n.repository) (node_of_log start es) (k.sound, k.bare)
+
+-- What holds of a log's names holds of an earlier one's.
+pub exact_log_earlier : (fmt : Format) (start : Node Slots) (e : Receipt) (es : ExactLog) → NoneCollide fmt start (map served (e ∷ es)) → NoneCollide fmt start (map served es)
+exact_log_earlier fmt start e es one = earlier_log fmt start (served e) (map served es) one

@@ -11,4 +11,4 @@ pub use answering::{answer, answer_from};
 pub use ending::{node_ending, shared_ending, unread_number, value_number};
 pub use serve_fault::ServeFault;
 pub use serving::serve_message;
-pub use telling::{Served, tell};
+pub use telling::{Served, error_bytes, send, tell};

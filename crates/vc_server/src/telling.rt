@@ -56,8 +56,9 @@ fn refusal_words(alloc: Global, fault: &SharedFault, number: u16) -> Result<Vec<
     }
 }
 
-// The Error that tells of a refusal, as it is written.
-fn error_bytes(alloc: Global, fault: &SharedFault, number: u16) -> Result<Vec<u8>, AllocError>
+/// The bytes of the Error that tells of a refusal of this number: `ERR not our ref <id>` for a wanted id that no ref reaches, and
+/// `ERR refused <number>` for whatever else.
+pub fn error_bytes(alloc: Global, fault: &SharedFault, number: u16) -> Result<Vec<u8>, AllocError>
     ensures { IfOk result (λ bytes. bytes.items ≡ error_bytes fault.now number) }
 {
     let text = refusal_words(alloc, fault, number)?;
@@ -66,8 +67,8 @@ fn error_bytes(alloc: Global, fault: &SharedFault, number: u16) -> Result<Vec<u8
     Ok(bytes)
 }
 
-// All of the bytes go out.
-fn send<W: Write>(writer: &mut W, bytes: &[u8]) -> Result<(), ServeFault>
+/// Writes all of the bytes and flushes them. A writer that fails is 116.
+pub fn send<W: Write>(writer: &mut W, bytes: &[u8]) -> Result<(), ServeFault>
     ensures sent { OnOk result (Appends (W.contents writer.old) (W.contents writer.new) bytes.now) }
     ensures fault { IfErr result (λ e. e ≡ ServeFault.WriteFailed) }
 {

@@ -27,3 +27,4 @@ pub mod BurningLemmas
 pub mod AddingLemmas
 pub mod NeedingLemmas
 pub mod PruningLemmas
+pub mod ShowingLemmas

@@ -15,3 +15,4 @@ pub mod Arriving
 pub mod Burning
 pub mod Pruning
 pub mod Cleaning
+pub mod Opening

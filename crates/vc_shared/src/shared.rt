@@ -28,6 +28,7 @@ ghost use Rattle.vc_shared.specs.Slots.{AreTellable, slot_of};
 ghost use Rattle.vc_shared.specs.Stepping.{IsRefusedIn, LeavesPackedIn};
 
 mod cleaning;
+mod showing;
 
 use crate::arriving::refuse_down;
 use crate::{AcceptFault, Accepted, SharedFault, Stepped, accepting, arriving, stepping};
@@ -302,7 +303,7 @@ impl<F: Files> Shared<F> {
         ensures answers { F.honest → AnswersCall F.content (Asks PackRefs) (RestartedAs result) self.old self.new }
         ensures packed { F.honest → OnOk result (IsPackedFrom (F.content self.old.files) (F.content self.new.files)) }
         ensures kept { F.honest → PacksOnly (F.content self.old.files) (F.content self.new.files) }
-        ensures refused { F.honest → IfErr result (λ e. (e ≡ NodeFault.Down) ⊎ BlamesPacking (F.content self.old.files) e) }
+        ensures refused { F.honest → self.old.is_up ≡ true → IfErr result (BlamesPacking (F.content self.old.files)) }
         ensures err { F.honest → IfErr result (λ e. (is_node_fault e ≡ true) ⊎ (F.content self.new.files ≡ F.content self.old.files)) }
         ensures settles { Settles (result ≡ Err NodeFault.Down) (node_up_after result) self.old self.new }
         ensures wear { Writes F.honest F.content F.failed F.can_fail F.left self.old.files self.new.files (TellsNodeDevice result) }

@@ -1,5 +1,5 @@
 // The shared node's prune.
-ghost use Rattle.std.specs.Prelude.{◌≡◌, ◌⊎◌, Err, IfErr, IfOk};
+ghost use Rattle.std.specs.Prelude.{◌≡◌, Err, IfErr, IfOk, true};
 ghost use Rattle.vc_files.specs.Failures.{Writes};
 ghost use Rattle.vc_local.specs.Clean.{KeepsClean};
 ghost use Rattle.vc_local.specs.Machine.{up_after};
@@ -28,7 +28,7 @@ impl<F: Files> Shared<F> {
         ensures answers { F.honest → AnswersCall F.content Prune (PrunedAs result) self.old self.new }
         ensures pruned { F.honest → IfOk result (PrunesNode F.content self.old self.new) }
         ensures early { F.honest → IfErr result (EndsPruneOf F.content self.old self.new) }
-        ensures refused { F.honest → IfErr result (λ e. (e ≡ NodeFault.Down) ⊎ BlamesNeeds (F.content self.old.files) self.old.slots e) }
+        ensures refused { F.honest → self.old.is_up ≡ true → IfErr result (BlamesNeeds (F.content self.old.files) self.old.slots) }
         ensures settles { SettlesForgetting (result ≡ Err NodeFault.Down) (up_after result) self.old self.new }
         ensures clean { F.honest → KeepsClean (F.content self.old.files) (F.content self.new.files) }
         ensures wear { Writes F.honest F.content F.failed F.can_fail F.left self.old.files self.new.files (TellsDevice result) }

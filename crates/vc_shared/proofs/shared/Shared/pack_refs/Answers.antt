@@ -1,4 +1,4 @@
-use Rattle.std.proofs.Common.{Ok, Err, inr, refl, rules}
+use Rattle.std.proofs.Common.{◌≡◌, Ok, Err, false, inr, refl, rules, sym, true≢false, ◌∙◌}
 use Rattle.vc_files.proofs.WearLemmas.{writes_told}
 use Rattle.vc_model.specs.Question.Question.{PackRefs}
 use Rattle.vc_model.specs.SharedCall.SharedCall.{Asks}
@@ -31,8 +31,13 @@ returns-in-Ok-clause-kept g c = λ honest. rw (← c.self.view_is) (packs_only _
 pub returns-in-Err-clause-kept : goal.returns-in-Err-clause-kept
 returns-in-Err-clause-kept g c = λ honest. rw (← c.self.view_is) (packs_only _ _ (c.in-Err.ensures.packs.rest honest) (c.in-Err.ensures.packs.kept honest))
 
+pub returns-then-not-self-clause-refused : goal.returns-then-not-self-clause-refused
+returns-then-not-self-clause-refused g c = λ honest up.
+    let down : c.args.self.now.is_up ≡ false = search rules in
+    absurd (true≢false (sym up ∙ down))
+
 pub returns-in-Err-clause-refused : goal.returns-in-Err-clause-refused
-returns-in-Err-clause-refused g c = λ honest. rw (← c.self.view_is, c.from-fault.ensures) (inr (c.in-Err.ensures.refused honest))
+returns-in-Err-clause-refused g c = λ honest up. rw (← c.self.view_is, c.from-fault.ensures) (c.in-Err.ensures.refused honest)
 
 pub returns-in-Ok-clause-wear : goal.returns-in-Ok-clause-wear
 returns-in-Ok-clause-wear g c = rw (← c.self.view_is) (writes_told c.in-Ok.ensures.wear (search rules) (search rules))

@@ -1,4 +1,4 @@
-use Rattle.std.proofs.Common.{◌≡◌, Err, Ok, ap, false, inl, inr, refl, rules, sym, true≢false, ◌∙◌}
+use Rattle.std.proofs.Common.{◌≡◌, Err, Ok, ap, false, inl, refl, rules, sym, true≢false, ◌∙◌}
 use Rattle.std.specs.Prelude.{not}
 use Rattle.vc_history.proofs.GenerationLemmas.{agrees_where_none}
 use Rattle.vc_history.specs.Numbering.{numbers}
@@ -17,7 +17,9 @@ pub returns-then-not-self-clause-early : goal.returns-then-not-self-clause-early
 returns-then-not-self-clause-early g c = λ honest. inl refl
 
 pub returns-then-not-self-clause-refused : goal.returns-then-not-self-clause-refused
-returns-then-not-self-clause-refused g c = λ honest. inl refl
+returns-then-not-self-clause-refused g c = λ honest up.
+    let down : c.args.self.now.is_up ≡ false = search rules in
+    absurd (true≢false (sym up ∙ down))
 
 pub returns-then-not-self-clause-clean : goal.returns-then-not-self-clause-clean
 returns-then-not-self-clause-clean g c = λ honest. clean_same _ _ refl
@@ -62,7 +64,7 @@ pub returns-in-Err-clause-early : goal.returns-in-Err-clause-early
 returns-in-Err-clause-early g c = λ honest. rw (← c.self.view_is) (c.in-Err.ensures.early honest)
 
 pub returns-in-Err-clause-refused : goal.returns-in-Err-clause-refused
-returns-in-Err-clause-refused g c = λ honest. rw (← c.self.view_is) (inr (c.in-Err.ensures.refused honest))
+returns-in-Err-clause-refused g c = λ honest up. rw (← c.self.view_is) (c.in-Err.ensures.refused honest)
 
 pub returns-in-Err-clause-clean : goal.returns-in-Err-clause-clean
 returns-in-Err-clause-clean g c = λ honest.
