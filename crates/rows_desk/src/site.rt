@@ -1,0 +1,75 @@
+//! The shared node of the rows, and the connections that wait for it.
+
+use crate::telling::push_served;
+use crate::turnstile::Turnstile;
+use bstr::ByteVec;
+use std::alloc::{AllocError, Global};
+use std::io::Cursor;
+use std::mem;
+use std::sync::Wait;
+use std::thread::Threads;
+use vc_desk::serve_all;
+use vc_files::MemoryFiles;
+use vc_message::Fallible;
+use vc_shared::Shared;
+
+/// What comes over a connection, and what is written there.
+pub type Connection = (Fallible<Cursor<Vec<u8>>>, Vec<u8>);
+
+/// A shared node, and connections to it.
+#[derive(Drop)]
+pub struct Site {
+    alloc: Global,
+    node: Option<Shared<MemoryFiles>>,
+    connections: Vec<Connection>,
+}
+
+impl Site {
+    /// No node, and no connection.
+    pub fn empty(alloc: Global) -> Site {
+        Site {
+            alloc,
+            node: None,
+            connections: Vec::new(alloc),
+        }
+    }
+
+    /// A new node, and no connection.
+    pub fn renew(&mut self, out: &mut String) -> Result<(), AllocError> {
+        self.connections = Vec::new(self.alloc);
+        match Shared::open(self.alloc, MemoryFiles::new(self.alloc)) {
+            Ok(node) => {
+                self.node = Some(node);
+                out.push_str("ok")
+            }
+            Err(_) => out.push_str("not opened"),
+        }
+    }
+
+    /// One connection more, on which these bytes come.
+    pub fn connect(&mut self, out: &mut String, text: &str) -> Result<(), AllocError> {
+        let bytes = Vec::unescape_bytes(self.alloc, text)?;
+        let reader = Fallible::new(Cursor::new(bytes));
+        self.connections.push((reader, Vec::new(self.alloc)))?;
+        out.push_str("ok")
+    }
+
+    /// All connections are served at once, and what came of them is told.
+    pub fn serve<T: Threads + Wait + Sync>(
+        &mut self,
+        rt: &T,
+        out: &mut String,
+    ) -> Result<(), AllocError> {
+        let Some(node) = self.node.take() else {
+            return out.push_str("no node");
+        };
+        let connections = mem::replace(&mut self.connections, Vec::new(self.alloc));
+        let gate = Turnstile::new();
+        let served = serve_all(rt, self.alloc, u64::MAX, node, connections, &gate);
+        push_served(out, &served)?;
+        if gate.ran_out() {
+            return out.push_str(", the turns ran out");
+        }
+        Ok(())
+    }
+}

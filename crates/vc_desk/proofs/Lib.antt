@@ -1,0 +1,7 @@
+mod Adding
+mod Talking
+mod PartLemmas
+mod Comparing
+mod Serving
+mod LawLemmas
+mod Crossing

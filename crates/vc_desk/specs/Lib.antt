@@ -1,0 +1,6 @@
+pub mod Entry
+pub mod Runs
+pub mod Talk
+pub mod Served
+pub mod Laws
+pub mod Parts
