@@ -6,6 +6,7 @@
 
 mod answers;
 mod ends;
+mod keeping;
 mod lines;
 mod messages;
 mod pieces;
@@ -42,6 +43,8 @@ fn answer(
         "pieces" => pieces::pieces(out, alloc, text),
         "skip" => pieces::skip(out, alloc, text),
         "fronts" => pieces::fronts(out, alloc, text),
+        "keep" => keeping::keep(out, alloc, text),
+        "within" => keeping::within(out, alloc, text),
         "write" => writing::write(out, alloc, text),
         "empty" => answers::empty(out, alloc, files),
         "put" => answers::put(out, alloc, files, text),

@@ -15,8 +15,8 @@ use vc_message::{
     AnyReader, Fallible, Head, IncomingFault, Source, Taken, next_object, read_head, skip_message,
 };
 
-// Why nothing more comes. Want of memory ends the row.
-fn push_fault(out: &mut String, fault: IncomingFault) -> Result<(), AllocError> {
+/// Why nothing more comes. Want of memory ends the row.
+pub fn push_fault(out: &mut String, fault: IncomingFault) -> Result<(), AllocError> {
     match fault {
         IncomingFault::Memory => Err(AllocError),
         _ => write!(out, "{fault}"),
@@ -112,8 +112,8 @@ fn push_next<R: Source>(
     }
 }
 
-// The messages that the reader gives, `;` behind each, and why no more come.
-fn told<R: Source>(alloc: Global, reader: &mut R, most: usize) -> Result<String, AllocError> {
+/// The messages that the reader gives, `;` behind each, and why no more come.
+pub fn told<R: Source>(alloc: Global, reader: &mut R, most: usize) -> Result<String, AllocError> {
     let mut out = String::new(alloc);
     for _ in 0..=most {
         if !push_next(&mut out, alloc, reader, most)? {

@@ -6,9 +6,7 @@ use std::mem;
 use std::net::{Net, OpenListener, OpenStream};
 use vc_files::MemoryFiles;
 use vc_message::{Fallible, read_message};
-use vc_server::tell;
-use vc_serving::{answer_from, make_shared};
-use vc_shared::AcceptFault;
+use vc_serving::{make_shared, serve_once};
 use vc_transport::bind;
 
 /// A shared node, and a connection to it.
@@ -63,10 +61,7 @@ impl<R: Net + AllocGlobal> Connection<R> {
     /// these are the bytes.
     pub fn exchange(&mut self, alloc: Global, bytes: &[u8]) -> io::Result<Vec<u8>> {
         self.client.get_mut().write_all(bytes)?;
-        let answered = self.answer(alloc);
-        if tell(alloc, self.server.get_mut(), &answered).is_err() {
-            return Err(broken());
-        }
+        self.answer(alloc)?;
         let mut kept = Fallible::new(Kept {
             reader: &mut self.client,
             given: Vec::new(alloc),
@@ -77,12 +72,16 @@ impl<R: Net + AllocGlobal> Connection<R> {
         }
     }
 
-    // What the node answers to the next message that comes.
-    fn answer(&mut self, alloc: Global) -> Result<Option<Vec<u8>>, AcceptFault> {
+    // The node answers the next message that comes.
+    fn answer(&mut self, alloc: Global) -> io::Result<()> {
         let files = mem::replace(&mut self.files, MemoryFiles::new(alloc));
         let mut server = Fallible::new(&mut self.server);
-        let (files, answered) = answer_from(alloc, files, &mut server);
+        let mut answer = Vec::new(alloc);
+        let (files, served) = serve_once(alloc, files, &mut server, &mut answer);
         self.files = files;
-        answered
+        if served.is_err() {
+            return Err(broken());
+        }
+        self.server.get_mut().write_all(&answer)
     }
 }

@@ -56,20 +56,36 @@ pub enum Task<'a> {
 /// A subcommand that speaks to another process, by a port of this machine.
 #[derive(Clone, Copy)]
 pub enum RemoteTask {
-    Serve {
-        port: u16,
-        /// How many connections are served.
-        count: u32,
-    },
+    Serve(Serving),
     Fetch {
         port: u16,
+        /// After how many seconds a server that sends or takes nothing is given up; 0: never.
+        timeout: u32,
     },
     /// Its items are told by [`list_of`].
     Push {
         port: u16,
+        /// The same.
+        timeout: u32,
         /// Whether all refs are to be set, or none.
         atomic: bool,
     },
+}
+
+/// How a store is served.
+#[derive(Clone, Copy)]
+pub struct Serving {
+    pub port: u16,
+    /// How many connections are served; none: as many as come, until the process is ended.
+    pub count: Option<u32>,
+    /// Whether so many connections are taken first, and served at once.
+    pub together: bool,
+    /// After how many seconds a client that sends or takes nothing is given up; 0: never.
+    pub timeout: u32,
+    /// How many MiB a message has at most.
+    pub limit: u64,
+    /// Whether the end of each connection is a line on standard error.
+    pub log: bool,
 }
 
 /// A subcommand of a clone: of its index, branches, HEAD and work tree.

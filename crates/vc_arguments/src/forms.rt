@@ -17,6 +17,10 @@ const MOST_PORT: u64 = 65_535;
 
 const MOST_CONNECTIONS: u64 = 1_000_000;
 
+const MOST_SECONDS: u64 = 86_400;
+
+const MOST_MEBIBYTES: u64 = 1_048_576;
+
 // A subcommand, and what help says of it.
 struct Form {
     name: &'static str,
@@ -46,9 +50,15 @@ enum Given {
     Said,
     // By an option that has to be there, as a number from 1 to this.
     Number(u64),
+    // The same, but it may be left out.
+    MaybeNumber(u64),
+    // By an option, as a number from this one to this, or else it is this.
+    NumberOr(u64, u64, &'static str),
     // By an option that takes no value.
     Switch,
-    // The same, or by this letter.
+    // The same, beside which this option has to be there.
+    SwitchBeside(&'static str),
+    // By an option that takes no value, or by this letter.
     Flag(char),
     // As a word that has to be there.
     One,
@@ -79,6 +89,13 @@ const PORT: Argument = Argument {
     value: "port",
     given: Given::Number(MOST_PORT),
     help: "The port of this machine, 1 to 65535",
+};
+
+const TIMEOUT: Argument = Argument {
+    id: "timeout",
+    value: "seconds",
+    given: Given::NumberOr(0, MOST_SECONDS, "60"),
+    help: "How long the other end may be silent; 0: for ever",
 };
 
 const BRANCH: Argument = Argument {
@@ -324,15 +341,34 @@ const FORMS: [Form; 21] = [
     Form {
         name: "serve",
         about: "Let clones on this machine fetch from the store and push to it",
-        after: "Prints \"listening\" and the port once it is open, and serves one connection after the other. Commands on\nthe store may run meanwhile, also in the middle of a long push. Only a fault of its own, no memory or a\nfailed disk, ends it early, with status 3; what a client sends never does.\n\nExample: vcs serve --store shared --port 7000 --count 100",
+        after: "Prints \"listening\" and the port once it is open, and serves one connection after the other. Commands on\nthe store may run meanwhile, also in the middle of a long push. Only a fault of its own, no memory or a\nfailed disk, ends it early, with status 3; what a client sends never does. It ends so, too, once its folder\nwas moved or its disk is gone. It may be killed at any time: nothing that a client was told is lost. A\nconnection on which no message came counts as none.\n\nWith --together so many connections are taken first, and the store is this server's alone until the last of them is closed:\nno other command writes to it meanwhile.\n\nA line of the log has the seconds since 1970, the client, what was asked last and what became of it, how many\nbytes came and went, and how many milliseconds the connection lasted.\n\nExample: vcs serve --store shared --port 7000 --log 2>> served.log",
         arguments: &[
             STORE,
             PORT,
             Argument {
                 id: "count",
                 value: "count",
-                given: Given::Number(MOST_CONNECTIONS),
-                help: "How many connections are served before it ends, 1 to 1000000",
+                given: Given::MaybeNumber(MOST_CONNECTIONS),
+                help: "End after so many connections, 1 to 1000000 [default: never]",
+            },
+            Argument {
+                id: "together",
+                value: "",
+                given: Given::SwitchBeside("count"),
+                help: "Take so many connections first, then serve all of them at once",
+            },
+            TIMEOUT,
+            Argument {
+                id: "limit",
+                value: "MiB",
+                given: Given::NumberOr(1, MOST_MEBIBYTES, "4096"),
+                help: "How large a message may be",
+            },
+            Argument {
+                id: "log",
+                value: "",
+                given: Given::Switch,
+                help: "Write a line for each connection to standard error",
             },
         ],
     },
@@ -340,7 +376,7 @@ const FORMS: [Form; 21] = [
         name: "fetch",
         about: "Fetch what a served store has, and print how many refs moved",
         after: "A branch b of the served store is followed by refs/remotes/origin/b here, and no branch of this clone moves.\n\nExample: vcs fetch --port 7000, then vcs rev-list main..refs/remotes/origin/main",
-        arguments: &[STORE, PORT],
+        arguments: &[STORE, PORT, TIMEOUT],
     },
     Form {
         name: "push",
@@ -349,6 +385,7 @@ const FORMS: [Form; 21] = [
         arguments: &[
             STORE,
             PORT,
+            TIMEOUT,
             Argument {
                 id: "atomic",
                 value: "",
@@ -395,15 +432,15 @@ fn command_of<'a>(alloc: Global, form: &Form) -> Result<Command<'a>, AllocError>
         .about(form.about)
         .after_help(form.after);
     for argument in form.arguments {
-        command = command.arg(arg_of(alloc, argument))?;
+        command = command.arg(arg_of(alloc, argument)?)?;
     }
     Ok(command)
 }
 
 // An argument as clap has it.
-fn arg_of<'a>(alloc: Global, argument: &Argument) -> Arg<'a> {
+fn arg_of<'a>(alloc: Global, argument: &Argument) -> Result<Arg<'a>, AllocError> {
     let arg = Arg::new(alloc, argument.id).help(argument.help);
-    match argument.given {
+    let arg = match argument.given {
         Given::Default(value) => arg
             .long(argument.id)
             .value_name(argument.value)
@@ -422,7 +459,20 @@ fn arg_of<'a>(alloc: Global, argument: &Argument) -> Arg<'a> {
             .value_name(argument.value)
             .required(true)
             .value_parser(ValueParser::Unsigned(1, most)),
+        Given::MaybeNumber(most) => arg
+            .long(argument.id)
+            .value_name(argument.value)
+            .value_parser(ValueParser::Unsigned(1, most)),
+        Given::NumberOr(least, most, value) => arg
+            .long(argument.id)
+            .value_name(argument.value)
+            .value_parser(ValueParser::Unsigned(least, most))
+            .default_value(value),
         Given::Switch => arg.long(argument.id).action(ArgAction::SetTrue),
+        Given::SwitchBeside(other) => arg
+            .long(argument.id)
+            .action(ArgAction::SetTrue)
+            .requires_arg(other)?,
         Given::Flag(letter) => arg
             .long(argument.id)
             .short(letter)
@@ -431,5 +481,6 @@ fn arg_of<'a>(alloc: Global, argument: &Argument) -> Arg<'a> {
         Given::Maybe => arg.value_name(argument.value),
         Given::Some => arg.value_name(argument.value).required(true).num_args(1..),
         Given::Any => arg.value_name(argument.value).num_args(0..),
-    }
+    };
+    Ok(arg)
 }

@@ -5,6 +5,6 @@ mod arguments;
 mod forms;
 mod reading;
 
-pub use arguments::{FileMode, LocalTask, Part, RemoteTask, Request, Task, Words};
+pub use arguments::{FileMode, LocalTask, Part, RemoteTask, Request, Serving, Task, Words};
 pub use forms::{DEFAULT_STORE, command};
 pub use reading::{list_of, option_without_folder, request_of, terms_of};

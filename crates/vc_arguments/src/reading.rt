@@ -1,6 +1,6 @@
 //! What the words of a command line ask for.
 
-use crate::arguments::{FileMode, LocalTask, Part, RemoteTask, Request, Task, Words};
+use crate::arguments::{FileMode, LocalTask, Part, RemoteTask, Request, Serving, Task, Words};
 use crate::forms::DEFAULT_STORE;
 use clap::ArgMatches;
 use clap::parser::ValueSource;
@@ -85,15 +85,14 @@ fn task_of<'a>(name: &str, words: &ArgMatches<'a>) -> Option<Task<'a>> {
         "prune" => Task::Prune {
             dry_run: words.get_flag("dry-run"),
         },
-        "serve" => Task::Remote(RemoteTask::Serve {
-            port: words.get_one::<u16>("port")?,
-            count: words.get_one::<u32>("count")?,
-        }),
+        "serve" => Task::Remote(RemoteTask::Serve(serving_of(words)?)),
         "fetch" => Task::Remote(RemoteTask::Fetch {
             port: words.get_one::<u16>("port")?,
+            timeout: words.get_one::<u32>("timeout")?,
         }),
         "push" => Task::Remote(RemoteTask::Push {
             port: words.get_one::<u16>("port")?,
+            timeout: words.get_one::<u32>("timeout")?,
             atomic: words.get_flag("atomic"),
         }),
         "world" => Task::World {
@@ -102,6 +101,18 @@ fn task_of<'a>(name: &str, words: &ArgMatches<'a>) -> Option<Task<'a>> {
         _ => Task::Local(local_task_of(name, words)?),
     };
     Some(task)
+}
+
+// How a store is served.
+fn serving_of(words: &ArgMatches<'_>) -> Option<Serving> {
+    Some(Serving {
+        port: words.get_one::<u16>("port")?,
+        count: words.get_one::<u32>("count"),
+        together: words.get_flag("together"),
+        timeout: words.get_one::<u32>("timeout")?,
+        limit: words.get_one::<u64>("limit")?,
+        log: words.get_flag("log"),
+    })
 }
 
 /// The option among the matches that is to name a folder and names none: an empty name is no folder's.

@@ -13,7 +13,7 @@ use vc_folder::{FolderFiles, FolderLock, Syncs};
 use vc_node::CloneNode;
 use vc_push::Report;
 use vc_sending::PushItem;
-use vc_transport::Progress;
+use vc_transport::{Place, Progress};
 use vc_world::{exchange_fetch, exchange_push, exchange_push_atomic};
 
 /// Fetches into the clone in this folder, whose lock is held, until its refs are the shared node's, all on one connection.
@@ -22,7 +22,7 @@ pub fn fetch<R, W>(
     rt: &R,
     lock: FolderLock<R>,
     store: &str,
-    port: u16,
+    place: Place,
     progress: &mut Progress<W>,
 ) -> Result<usize, RemoteFault>
 where
@@ -32,7 +32,7 @@ where
     let alloc = rt.alloc();
     let mut clone = open_clone(rt, store)?;
     let folder = String::from_str(alloc, store)?;
-    let mut server = Server::new(rt.clone()?, port, folder, lock, progress);
+    let mut server = Server::new(rt.clone()?, place, folder, lock, progress);
     let fetched = exchange_fetch(&mut server, &mut clone);
     settle(alloc, clone)?;
     Ok(fetched?.moved)
@@ -44,7 +44,7 @@ pub fn push<R, W>(
     rt: &R,
     lock: FolderLock<R>,
     store: &str,
-    port: u16,
+    place: Place,
     atomic: bool,
     items: &[PushItem],
     progress: &mut Progress<W>,
@@ -57,7 +57,7 @@ where
     let alloc = rt.alloc();
     let mut clone = open_clone(rt, store)?;
     let folder = String::from_str(alloc, store)?;
-    let mut server = Server::new(rt.clone()?, port, folder, lock, progress);
+    let mut server = Server::new(rt.clone()?, place, folder, lock, progress);
     let pushed = if atomic {
         exchange_push_atomic(alloc, &mut server, &mut clone, items)
     } else {

@@ -13,13 +13,24 @@ use std::net::{Net, OpenStream};
 use std::rt;
 use vc_files::Fault;
 use vc_folder::FolderLock;
-use vc_message::{Fallible, Message, read_message};
-use vc_transport::{Kept, Progress, Spooled, connect, keep, receive, send};
+use vc_message::{Bound, Fallible, IncomingFault, Message, read_message};
+use vc_pkt::PktFault;
+use vc_transport::{Kept, Most, Place, Progress, Spooled, connect, keep, receive, send};
 use vc_world::{Peer, Reply};
 
-// How many bytes of an answer are kept in memory at most: an object with the longest body, and a mebibyte beside it. A longer answer
-// is read back from a file, and each of its objects is written twice, since it stands in the quarantine before it is stored.
-const SHORT: usize = 17_825_792;
+// In memory an object with the longest body is kept, and a mebibyte beside it. A longer answer is read back from a file, and each of
+// its objects is written twice, since it stands in the quarantine before it is stored.
+const MOST: Most = Most {
+    short: 17_825_792,
+    long: u64::MAX,
+};
+
+// What an answer may have before its objects: a million refs, with HEAD's line and the end, and 256 MiB. An advertisement has no objects,
+// so this is all of it.
+const BOUND: Bound = Bound {
+    bytes: 268_435_456,
+    lines: 1_000_002,
+};
 
 /// The shared node at a port of this machine. The right to write to the clone is let go while an answer comes, and taken again
 /// before the clone sees the answer: a server that is silent stops no other command on the clone. An answer that is long is kept in a
@@ -27,7 +38,7 @@ const SHORT: usize = 17_825_792;
 #[derive(Drop)]
 pub(crate) struct Server<'a, R: rt::Files + Net + AllocGlobal + Clone + Drop, W> {
     rt: R,
-    port: u16,
+    place: Place,
     // The folder of the clone.
     store: String,
     lock: Option<FolderLock<R>>,
@@ -44,14 +55,14 @@ where
     /// The shared node at a port, for the clone in a folder, whose lock is held. The first question makes the connection.
     pub(crate) fn new(
         rt: R,
-        port: u16,
+        place: Place,
         store: String,
         lock: FolderLock<R>,
         progress: &'a mut Progress<W>,
     ) -> Server<'a, R, W> {
         Server {
             rt,
-            port,
+            place,
             store,
             lock: Some(lock),
             stream: None,
@@ -64,7 +75,7 @@ where
         if self.stream.is_some() {
             return Ok(());
         }
-        let Ok(stream) = connect(&self.rt, self.port) else {
+        let Ok(stream) = connect(&self.rt, self.place) else {
             return Err(RemoteFault::WriteFailed);
         };
         match BufReader::new(self.rt.alloc(), stream) {
@@ -86,11 +97,19 @@ where
         if send(stream.get_mut(), bytes, &mut *self.progress).is_err() {
             return Err(said_before(&self.rt, folder, stream));
         }
-        let kept = receive(&self.rt, folder, SHORT, stream, &mut *self.progress)?;
+        let kept = receive(&self.rt, folder, MOST, BOUND, stream, &mut *self.progress)?;
         match kept.message? {
-            Some(()) => Ok(kept.bytes),
+            Some(()) => whole(kept.bytes),
             None => Err(RemoteFault::ReadFailed),
         }
+    }
+}
+
+// An answer that was kept as a whole.
+fn whole(bytes: Option<Spooled<File>>) -> Result<Spooled<File>, RemoteFault> {
+    match bytes {
+        Some(bytes) => Ok(bytes),
+        None => Err(RemoteFault::from(IncomingFault::Unread(PktFault::TooLarge))),
     }
 }
 
@@ -103,7 +122,7 @@ where
     if stream.get_ref().set_nonblocking(true).is_err() {
         return RemoteFault::WriteFailed;
     }
-    match keep(rt, folder, SHORT, stream) {
+    match keep(rt, folder, MOST, BOUND, stream) {
         Ok(answer) => refusal_in(rt.alloc(), answer),
         Err(_) => RemoteFault::WriteFailed,
     }
@@ -111,7 +130,10 @@ where
 
 // What the server said where it refused; else that it heard no more.
 fn refusal_in(alloc: Global, answer: Kept<File>) -> RemoteFault {
-    match read(alloc, answer.bytes) {
+    let Some(bytes) = answer.bytes else {
+        return RemoteFault::WriteFailed;
+    };
+    match read(alloc, bytes) {
         Err(RemoteFault::Refused(text)) => RemoteFault::Refused(text),
         _ => RemoteFault::WriteFailed,
     }

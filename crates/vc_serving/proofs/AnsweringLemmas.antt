@@ -1,21 +1,18 @@
 -- What a shared node that was opened, served one message and was closed has done.
-use Rattle.std.proofs.Common.{◌≡◌, ◌++◌, ℕ, true, Bool, List, Option, Some, None, Ok, Err, refl, subst, sym, inl, inr}
+use Rattle.std.proofs.Common.{◌≡◌, ℕ, true, Bool, List, Option, Some, None, Ok, Err, refl, subst, sym, inr}
 use Rattle.std.specs.Global.{Global}
 use Rattle.std.specs.Prelude.{IfErr, IfNone, IfOk, Result, Vec}
 use Rattle.vc_files.specs.FileMap.{FileMap}
-use Rattle.vc_message.specs.Machine.{Reads}
-use Rattle.vc_model.specs.Message.{Message}
 use Rattle.vc_model.specs.Repository.{Repository}
 use Rattle.vc_model.specs.SharedCall.{SharedCall}
-use Rattle.vc_model.specs.SharedCall.SharedCall.{Accept}
 use Rattle.vc_local.specs.Clean.{KeepsClean}
 use Rattle.vc_local.specs.Opening.{IsOpenable}
-use Rattle.vc_serving.specs.Answering.{AnswersCame, AnswersRead, IsRefusedOnce, KeepsOpenable, ServesCame, ServesOnce, ServesOnceAs, opened_shared}
+use Rattle.vc_serving.specs.Answering.{AnswersCame, IsRefusedOnce, KeepsOpenable, ServesCame, ServesOnce, ServesOnceAs, opened_shared}
 use Rattle.vc_push_rules.specs.Session.{SessionText}
-use Rattle.vc_server.specs.Coming.{IsRefusedThere, Reply, ServesAs, ServesFrom, ServesKnown}
+use Rattle.vc_server.specs.Coming.{IsRefusedThere, Reply, ServesAs, ServesFrom}
 use Rattle.vc_server.specs.Serving.{Serves}
 use Rattle.vc_shared.proofs.RestartLemmas.{held_open}
-use Rattle.vc_shared.specs.Arriving.{IsCallOf, IsKnown, IsTold}
+use Rattle.vc_shared.specs.Arriving.{IsCallOf, IsTold}
 use Rattle.vc_shared.specs.Holding.{HoldsShared, SharedText}
 use Rattle.vc_shared.specs.Node.{KeepsNode}
 use Rattle.vc_shared.specs.Slots.{free_slots}
@@ -37,19 +34,9 @@ served call r result opened new slots after was_up is_up up holds serves =
       openable = held_open new after is_up end.0 end.3;
     }
 
--- the node was up, and its answer is told as it came
+-- the node was up
 module _ (honest : Type 0) (before left : Option (List ℕ)) (r : Repository) (result : Reply) (old opened new : FileMap) (slots after : List (Option SessionText)) (was_up is_up : Bool) (up : was_up ≡ true) where
-  pub read_once : HoldsShared opened slots true (opened_shared r) → honest → ServesKnown honest before left opened new slots after was_up is_up result → (m : Message) (bytes rest : List ℕ) → before ≡ Some (bytes ++ rest) → Reads bytes m
-      → AnswersRead (Accept m) r old new result
-  read_once holds h known m bytes rest is reads = by result (known m bytes rest is reads)
-    where
-      by : (given : Reply) → IsKnown honest was_up m rest left (λ call. ServesAs call given opened new slots after was_up is_up) given → AnswersRead (Accept m) r old new given
-      by (Ok (Some reply)) knows = inr (served (Accept m) r (Ok reply) opened new slots after was_up is_up up holds (knows.1 h))
-      by (Ok None) knows = absurd knows
-      by (Err ReadFailed) knows = tt
-      by (Err (Node e)) knows = inr (served (Accept m) r (Err e) opened new slots after was_up is_up up holds (knows.1 h (inl up)))
-
-  -- the same of whatever came
+  -- what it tells of a call is the answer of the node that was opened
   served_as : HoldsShared opened slots true (opened_shared r) → (call : SharedCall) (given : Reply) → ServesAs call given opened new slots after was_up is_up → ServesOnceAs call r new given
   served_as holds call (Ok (Some reply)) serves = served call r (Ok reply) opened new slots after was_up is_up up holds serves
   served_as holds call (Ok None) serves = tt

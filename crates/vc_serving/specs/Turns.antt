@@ -1,5 +1,5 @@
 -- What a turn at a connection means for the connection, and for the server.
-use Rattle.std.specs.Prelude.{Bool, true, false, Option, Some, None, ⊤, Result, Ok, Err}
+use Rattle.std.specs.Prelude.{ℕ, nat_le, Bool, true, false, Option, Some, None, ⊤, Result, Ok, Err}
 use Rattle.vc_files.specs.declared.faults.Fault.{Fault}
 use Rattle.vc_files.specs.declared.faults.Fault.TheVariants as fault
 use Rattle.vc_message.specs.declared.incoming_fault.IncomingFault.{IncomingFault}
@@ -24,3 +24,8 @@ has_come (Ok None) = Ok false
 has_come (Err (incoming.Unread e)) = Ok true
 has_come (Err incoming.Failed) = Err serve_fault.ReadFailed
 has_come (Err incoming.Memory) = Err serve_fault.Memory
+
+-- as many connections were served as there are to be; where no number is told, there are always more
+abbrev pub is_enough : ℕ → Option ℕ → Bool
+is_enough served (Some count) = nat_le count served
+is_enough served None = false

@@ -7,19 +7,38 @@ use std::io::{self, Write};
 use std::net::Net;
 use std::rt;
 use std::thread::Threads;
+use std::time::Clock;
+use vc_arguments::Serving;
 use vc_cli::{Failure, Faults, only_writer, open_store, print_text};
 use vc_transport::bind;
 
-/// Serves so many connections to the store in this folder, which is made where there is none. The line `listening`, with the
-/// port, is printed once the port is open.
+/// Serves connections to the store in this folder, one after the other.
 pub fn serve<R, O, E>(
     rt: &R,
     store: &str,
-    port: u16,
-    count: u32,
+    serving: Serving,
     output: &mut O,
     faults: &mut Faults<E>,
 ) -> Result<(), Failure>
+where
+    R: rt::Files<File = File> + Threads + Net + Clock + AllocGlobal + Clone + Drop,
+    O: Write,
+    E: Write,
+{
+    let listener = open_port(rt, store, serving.port, output, faults)?;
+    serve_connections(rt, store, &listener, serving, faults)?;
+    Ok(())
+}
+
+/// Opens the port at which the store in this folder is served. The store is made where there is none, before anybody is served and never
+/// later. The line `listening`, with the port, is printed once the port is open.
+pub fn open_port<R, O, E>(
+    rt: &R,
+    store: &str,
+    port: u16,
+    output: &mut O,
+    faults: &mut Faults<E>,
+) -> Result<R::Listener, Failure>
 where
     R: rt::Files<File = File> + Threads + Net + AllocGlobal + Clone + Drop,
     O: Write,
@@ -32,8 +51,7 @@ where
     };
     let line = format!(in rt.alloc(); "listening {port}\n")?;
     print_text(line.as_bytes(), output)?;
-    serve_connections(rt, store, &listener, count)?;
-    Ok(())
+    Ok(listener)
 }
 
 // Makes the store that of a shared node, or tells why it is none, before anybody is served.

@@ -6,9 +6,15 @@
 
 mod answering;
 mod command;
+pub mod home;
 mod own_folder;
 mod served_files;
 mod serving;
+mod settling;
+pub mod talk;
+mod turn;
 
-pub use answering::{answer_from, make_shared};
-pub use command::serve;
+pub use answering::make_shared;
+pub use command::{open_port, serve};
+pub use serving::{MEBIBYTE, pass_over};
+pub use turn::serve_once;

@@ -2,14 +2,17 @@
 ghost use Rattle.std.specs.Prelude.{◌≡◌, ◌≤◌, IsErrOf};
 ghost use Rattle.vc_files.specs.Failures.{HasFailed, unstopped};
 
+use crate::home::Home;
 use crate::own_folder::OwnFolder;
 use std::alloc::Global;
+use std::cell::RefCell;
 use std::fs::File;
 use std::marker::Model;
 use std::rt;
 use std::thread::yield_now;
+use vc_cli::keep_objects;
 use vc_files::{Fault, Files};
-use vc_folder::{FolderFiles, FolderLock, Syncs};
+use vc_folder::{FolderFiles, FolderLock, FolderShare, Syncs};
 
 // What a path is to a server.
 #[derive(Clone, Copy, PartialEq, Eq)]
@@ -46,31 +49,81 @@ fn give_way() {
     }
 }
 
-// A store, and the folder of its server's own.
+/// A store at the hand of its server, and the folder of the server's own.
 #[derive(Drop)]
-struct Places<'a, R: rt::Files<File = File> + Syncs<File> + AllocGlobal + Clone + Drop> {
+pub(crate) struct Places<R: rt::Files<File = File> + Syncs<File> + AllocGlobal + Clone + Drop> {
     rt: R,
     // The store's folder.
     folder: String,
+    // The same, as it was when the server began.
+    home: Home,
     store: FolderFiles<R>,
-    own: &'a mut OwnFolder<R>,
+    own: OwnFolder<R>,
     // The store's lock, while it is held.
     lock: Option<FolderLock<R>>,
+    // What keeps the store's objects from a prune, while a message is answered.
+    share: Option<FolderShare>,
     // How many writes were made to the store since it was taken.
     writes: u32,
     // Whether a file that may change was looked at since it was taken.
     has_looked: bool,
 }
 
-impl<'a, R> Places<'a, R>
+impl<R> Places<R>
 where
     R: rt::Files<File = File> + Syncs<File> + AllocGlobal + Clone + Drop,
 {
+    /// The store in this folder, which is there, under no lock.
+    pub(crate) fn new(rt: &R, folder: &str) -> Result<Places<R>, Fault> {
+        let alloc = rt.alloc();
+        Ok(Places {
+            rt: rt.clone()?,
+            folder: String::from_str(alloc, folder)?,
+            home: Home::open(rt, folder)?,
+            store: FolderFiles::new(rt.clone()?, String::from_str(alloc, folder)?),
+            own: OwnFolder::new(rt, folder)?,
+            lock: None,
+            share: None,
+            writes: 0,
+            has_looked: false,
+        })
+    }
+
+    /// Before a message is answered. Nothing is kept from message to message, so that other commands may change the store; and nobody
+    /// takes objects from it until the answer is there, since between two steps of a push nothing names yet what was stored of it, and
+    /// what it leans on a command may have let go. A store that went away is a fault, and nothing is made where it stood.
+    pub(crate) fn begin(&mut self) -> Result<(), Fault> {
+        self.look_home()?;
+        self.share = Some(keep_objects(&self.rt, self.folder.as_str())?);
+        let root = String::from_str(self.rt.alloc(), self.folder.as_str())?;
+        self.store = FolderFiles::new(self.rt.clone()?, root);
+        self.has_looked = false;
+        Ok(())
+    }
+
+    /// After a message was answered: makes all that was stored durable, and leaves the store to others.
+    pub(crate) fn settle(&mut self) -> Result<(), Fault> {
+        let alloc = self.rt.alloc();
+        self.let_go(alloc)?;
+        self.share = None;
+        Ok(())
+    }
+
+    // A store whose folder was moved, or whose disk is gone, is not served as another one.
+    fn look_home(&self) -> Result<(), Fault> {
+        if self.home.is_there(&self.rt)? {
+            Ok(())
+        } else {
+            Err(Fault::Device)
+        }
+    }
+
     // Waits for the store's lock, if it isn't held.
     fn hold(&mut self) -> Result<(), Fault> {
         if self.lock.is_none() {
             self.lock = Some(FolderLock::take(&self.rt, self.folder.as_str())?);
             self.has_looked = false;
+            self.look_home()?;
         }
         Ok(())
     }
@@ -167,7 +220,7 @@ pub(crate) struct ServedFiles<
     'a,
     R: rt::Files<File = File> + Syncs<File> + AllocGlobal + Clone + Drop,
 > {
-    places: Places<'a, R>,
+    places: &'a RefCell<Places<R>>,
     failed: u64,
 }
 
@@ -184,29 +237,9 @@ impl<'a, R> ServedFiles<'a, R>
 where
     R: rt::Files<File = File> + Syncs<File> + AllocGlobal + Clone + Drop,
 {
-    /// The files of the store in this folder, under no lock.
-    pub(crate) fn new(
-        rt: &R,
-        store: &str,
-        own: &'a mut OwnFolder<R>,
-    ) -> Result<ServedFiles<'a, R>, Fault> {
-        let alloc = rt.alloc();
-        let root = String::from_str(alloc, store)?;
-        let places = Places {
-            rt: rt.clone()?,
-            folder: String::from_str(alloc, store)?,
-            store: FolderFiles::new(rt.clone()?, root),
-            own,
-            lock: None,
-            writes: 0,
-            has_looked: false,
-        };
-        Ok(ServedFiles { places, failed: 0 })
-    }
-
-    /// Makes all that was stored durable, and lets the store's lock go.
-    pub(crate) fn end(&mut self, alloc: Global) -> Result<(), Fault> {
-        self.places.let_go(alloc)
+    /// The files of this store.
+    pub(crate) fn new(places: &'a RefCell<Places<R>>) -> ServedFiles<'a, R> {
+        ServedFiles { places, failed: 0 }
     }
 
     // Counts what a device failed to do.
@@ -243,22 +276,34 @@ where
     ghost left = { unstopped };
 
     fn get(&mut self, alloc: Global, path: &str) -> Result<Option<Vec<u8>>, Fault> {
-        let done = self.places.get(alloc, path);
+        let done = match self.places.try_borrow_mut() {
+            Ok(mut places) => places.get(alloc, path),
+            Err(_) => Err(Fault::Device),
+        };
         self.settle(done)
     }
 
     fn put(&mut self, alloc: Global, path: &str, bytes: &[u8]) -> Result<(), Fault> {
-        let done = self.places.put(alloc, path, bytes);
+        let done = match self.places.try_borrow_mut() {
+            Ok(mut places) => places.put(alloc, path, bytes),
+            Err(_) => Err(Fault::Device),
+        };
         self.settle(done)
     }
 
     fn remove(&mut self, alloc: Global, path: &str) -> Result<(), Fault> {
-        let done = self.places.remove(alloc, path);
+        let done = match self.places.try_borrow_mut() {
+            Ok(mut places) => places.remove(alloc, path),
+            Err(_) => Err(Fault::Device),
+        };
         self.settle(done)
     }
 
     fn list(&mut self, alloc: Global, prefix: &str) -> Result<Vec<String>, Fault> {
-        let done = self.places.list(alloc, prefix);
+        let done = match self.places.try_borrow_mut() {
+            Ok(mut places) => places.list(alloc, prefix),
+            Err(_) => Err(Fault::Device),
+        };
         self.settle(done)
     }
 

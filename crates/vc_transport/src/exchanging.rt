@@ -1,18 +1,20 @@
 //! One message sent, and one kept as it comes.
 
 use crate::progress::{Counted, Progress};
-use crate::spool::{Copying, Spool, Spooled};
+use crate::spool::{Copying, Most, Spool, Spooled};
 use std::fs::File;
 use std::io::{self, Read, Write};
 use std::rt;
 use vc_files::Fault;
-use vc_message::{Fallible, IncomingFault, skip_message};
+use vc_message::{Bound, Fallible, IncomingFault, skip_within};
 
 /// What came of one message.
 #[derive(Drop)]
 pub struct Kept<F> {
-    /// The bytes that came: the whole message, or those of what is none up to its first fault.
-    pub bytes: Spooled<F>,
+    /// The bytes that came: the whole message, or those of what is none up to its first fault. None where they are more than are kept.
+    pub bytes: Option<Spooled<F>>,
+    /// How many came.
+    pub count: u64,
     /// Whether a message came before the end of the stream; or why what came is none.
     pub message: Result<Option<()>, IncomingFault>,
 }
@@ -36,7 +38,8 @@ pub fn send<S: Write, W: Write>(
 pub fn receive<R, S, W>(
     rt: &R,
     folder: &str,
-    short: usize,
+    most: Most,
+    bound: Bound,
     stream: &mut S,
     progress: &mut Progress<W>,
 ) -> Result<Kept<File>, Fault>
@@ -49,20 +52,33 @@ where
         stream,
         progress: &mut *progress,
     };
-    let kept = keep(rt, folder, short, &mut counted);
+    let kept = keep(rt, folder, most, bound, &mut counted);
     progress.end();
     kept
 }
 
-/// Keeps the next message of a stream, and takes no byte after it. What is longer than so many bytes is kept in a file of the folder.
-pub fn keep<R, S>(rt: &R, folder: &str, short: usize, stream: &mut S) -> Result<Kept<File>, Fault>
+/// Keeps the next message of a stream, and takes no byte after it, unless it has more before its objects, or is larger, than it may.
+/// What is long is kept in a file of the folder.
+pub fn keep<R, S>(
+    rt: &R,
+    folder: &str,
+    most: Most,
+    bound: Bound,
+    stream: &mut S,
+) -> Result<Kept<File>, Fault>
 where
     R: rt::Files<File = File> + AllocGlobal + Clone + Drop,
     S: Read,
 {
-    let spool = Spool::new(rt, folder, short)?;
+    let spool = Spool::new(rt, folder, most)?;
     let mut copying = Fallible::new(Copying { stream, spool });
-    let message = skip_message(rt.alloc(), &mut copying);
-    let bytes = copying.into_inner().spool.finish()?;
-    Ok(Kept { bytes, message })
+    let message = skip_within(rt.alloc(), &mut copying, bound);
+    let spool = copying.into_inner().spool;
+    let count = spool.count();
+    let bytes = spool.finish()?;
+    Ok(Kept {
+        bytes,
+        count,
+        message,
+    })
 }

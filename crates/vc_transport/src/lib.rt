@@ -11,9 +11,9 @@ mod report;
 mod spool;
 mod words;
 
-pub use connection::{bind, connect};
+pub use connection::{Place, bind, connect, prepare};
 pub use exchanging::{Kept, keep, receive, send};
 pub use progress::Progress;
 pub use report::{is_done, report_lines};
-pub use spool::{Spooled, fault_of};
+pub use spool::{Most, Spooled, fault_of};
 pub use words::{ItemWords, item_words};

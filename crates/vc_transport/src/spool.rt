@@ -4,12 +4,29 @@ ghost use Rattle.std.specs.Io.KnownBytes.{ReadConsumes};
 
 use std::alloc::{AllocError, Global};
 use std::fs::{self, File};
-use std::io::{self, BufReader, BufWriter, Cursor, ErrorKind, Read, Seek, Write};
+use std::io::{self, BufRead, BufReader, BufWriter, Cursor, ErrorKind, Read, Seek, Write};
 use std::rt;
 use vc_files::Fault;
 
 // How many bytes go to a file with one write, where they come in small parts: a line of a message, and a little more.
 const PIECE: usize = 65_536;
+
+/// How much of a message is kept.
+#[derive(Clone, Copy)]
+pub struct Most {
+    /// How many bytes are kept in memory. What is longer goes to a file.
+    pub short: usize,
+    /// How many bytes are kept at all. What is longer is too large.
+    pub long: u64,
+}
+
+// Why bytes were lost.
+#[derive(Clone, Copy)]
+enum Loss {
+    Fault(Fault),
+    // They are more than are kept.
+    TooLarge,
+}
 
 // Where the bytes are.
 #[derive(Drop)]
@@ -24,37 +41,50 @@ pub(crate) struct Spool<R: rt::Files> {
     rt: R,
     // The store's folder.
     folder: String,
-    // How many bytes are kept in memory at most. What is longer goes to a file, and of that no more than a piece is in memory.
-    short: usize,
+    // Of what goes to a file no more than a piece is in memory.
+    most: Most,
     place: Place<R::File>,
+    // How many bytes came.
+    count: u64,
     // Why bytes were lost, if any were.
-    fault: Option<Fault>,
+    loss: Option<Loss>,
 }
 
 impl<R: rt::Files + AllocGlobal + Clone + Drop> Spool<R> {
-    /// Nothing has come yet. What is longer than so many bytes will go to a file.
-    pub(crate) fn new(rt: &R, folder: &str, short: usize) -> Result<Spool<R>, AllocError> {
+    /// Nothing has come yet. So much will be kept.
+    pub(crate) fn new(rt: &R, folder: &str, most: Most) -> Result<Spool<R>, AllocError> {
         let alloc = rt.alloc();
         Ok(Spool {
             rt: rt.clone()?,
             folder: String::from_str(alloc, folder)?,
-            short,
+            most,
             place: Place::Memory(Vec::new(alloc)),
-            fault: None,
+            count: 0,
+            loss: None,
         })
     }
 
     // Keeps these bytes behind the others, or why they are lost.
     fn push(&mut self, bytes: &[u8]) {
-        if let Err(error) = self.add(bytes) {
-            self.fault = Some(fault_of(&error));
+        self.count = self.count.saturating_add(bytes.len() as u64);
+        if self.count > self.most.long {
+            self.loss = Some(Loss::TooLarge);
+            return;
         }
+        if let Err(error) = self.add(bytes) {
+            self.loss = Some(Loss::Fault(fault_of(&error)));
+        }
+    }
+
+    /// How many bytes came.
+    pub(crate) fn count(&self) -> u64 {
+        self.count
     }
 
     fn add(&mut self, bytes: &[u8]) -> io::Result<()> {
         match &mut self.place {
             Place::Memory(held) => {
-                if held.len().saturating_add(bytes.len()) <= self.short {
+                if held.len().saturating_add(bytes.len()) <= self.most.short {
                     held.extend_from_slice(bytes)?;
                     return Ok(());
                 }
@@ -69,20 +99,23 @@ impl<R: rt::Files + AllocGlobal + Clone + Drop> Spool<R> {
         }
     }
 
-    /// What was kept, to be read from its first byte on; or why some of it is lost.
-    pub(crate) fn finish(self) -> Result<Spooled<R::File>, Fault> {
+    /// What was kept, to be read from its first byte on; none where it is too large; or why some of it is lost.
+    pub(crate) fn finish(self) -> Result<Option<Spooled<R::File>>, Fault> {
         let Spool {
             rt,
             folder: _,
-            short: _,
+            most: _,
             place,
-            fault,
+            count: _,
+            loss,
         } = self;
-        if let Some(fault) = fault {
-            return Err(fault);
+        match loss {
+            Some(Loss::Fault(fault)) => return Err(fault),
+            Some(Loss::TooLarge) => return Ok(None),
+            None => {}
         }
         match place.read_back(rt.alloc()) {
-            Ok(spooled) => Ok(spooled),
+            Ok(spooled) => Ok(Some(spooled)),
             Err(error) => Err(fault_of(&error)),
         }
     }
@@ -141,7 +174,7 @@ impl<S: Read, R: rt::Files + AllocGlobal + Clone + Drop> Read for Copying<S, R> 
         ensures bytes { ReadConsumes (S.remaining self.old.stream) (S.remaining self.new.stream) result buf.new }
     {
         // An error may take nothing from the stream, so a loss is told by the read behind it.
-        if self.spool.fault.is_some() {
+        if self.spool.loss.is_some() {
             return Err(io::Error::from(ErrorKind::Other));
         }
         let read = self.stream.read(buf)?;
@@ -155,6 +188,16 @@ impl<S: Read, R: rt::Files + AllocGlobal + Clone + Drop> Read for Copying<S, R> 
 pub enum Spooled<F> {
     Memory(Cursor<Vec<u8>>),
     File(BufReader<F>),
+}
+
+impl<F: Read> Spooled<F> {
+    /// Some of the first bytes, which stay; none where there are none.
+    pub fn front(&mut self) -> io::Result<&[u8]> {
+        match self {
+            Spooled::Memory(held) => held.fill_buf(),
+            Spooled::File(file) => file.fill_buf(),
+        }
+    }
 }
 
 impl<F: Read> Read for Spooled<F> {
