@@ -20,7 +20,9 @@ use std::alloc::AllocError;
 use std::fs::File;
 use std::io::{self, BufWriter, ErrorKind, Write};
 use std::net::Net;
+use std::sync::Wait;
 use std::thread::Threads;
+use std::time::Clock;
 use std::{env, fs, rt};
 use vc_cli::keep_objects;
 use vc_commands::{Faults, Input, run};
@@ -39,7 +41,19 @@ fn main(rt: HostRuntime) -> io::Result<()> {
 
 fn run_script<R, W>(rt: &R, script: &str, out: &mut W) -> io::Result<()>
 where
-    R: rt::Files<File = File> + Threads + Net + Beside<R> + AllocGlobal + Clone + Drop,
+    R: rt::Files<File = File>
+        + Threads
+        + Wait
+        + Net
+        + Clock
+        + Beside<R>
+        + AllocGlobal
+        + Clone
+        + Drop
+        + Send
+        + Sync,
+    R::Stream: Send,
+    R::Dir: Send,
     W: Write,
 {
     let mut next = Next {
@@ -69,7 +83,19 @@ struct Next {
 // Does what a line says. One that is neither blank nor of a known form is a mistake in the script.
 fn follow<R, W>(rt: &R, line: &str, next: &mut Next, out: &mut W) -> io::Result<()>
 where
-    R: rt::Files<File = File> + Threads + Net + Beside<R> + AllocGlobal + Clone + Drop,
+    R: rt::Files<File = File>
+        + Threads
+        + Wait
+        + Net
+        + Clock
+        + Beside<R>
+        + AllocGlobal
+        + Clone
+        + Drop
+        + Send
+        + Sync,
+    R::Stream: Send,
+    R::Dir: Send,
     W: Write,
 {
     let Some((form, rest)) = line.split_once(' ') else {
@@ -103,7 +129,19 @@ where
 // Runs a command line over this input, and prints what it printed.
 fn run_words<R, W>(rt: &R, line: &str, input: &[u8], out: &mut W) -> io::Result<()>
 where
-    R: rt::Files<File = File> + Threads + Net + Beside<R> + AllocGlobal + Clone + Drop,
+    R: rt::Files<File = File>
+        + Threads
+        + Wait
+        + Net
+        + Clock
+        + Beside<R>
+        + AllocGlobal
+        + Clone
+        + Drop
+        + Send
+        + Sync,
+    R::Stream: Send,
+    R::Dir: Send,
     W: Write,
 {
     let words = words_of(rt, line)?;

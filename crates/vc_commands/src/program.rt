@@ -11,10 +11,12 @@ use std::fs::File;
 use std::io::{Read, Write};
 use std::net::Net;
 use std::rt;
+use std::sync::Wait;
 use std::thread::Threads;
+use std::time::Clock;
 use vc_arguments::{
-    LocalTask, RemoteTask, Request, Task, command, list_of, option_without_folder, request_of,
-    terms_of,
+    LocalTask, RemoteTask, Request, Serving, Task, command, list_of, option_without_folder,
+    request_of, terms_of,
 };
 use vc_cli::{Failure, Faults, only_writer, refuse_second_store};
 use vc_committing::adding::add;
@@ -33,6 +35,8 @@ use vc_reading::rev_parse::rev_parse;
 use vc_reading::show_ref::show_ref;
 use vc_reading::{Input, Lists, line_of_refusal};
 use vc_serving::serve;
+use vc_together::serve_together;
+use vc_transport::Place;
 use vc_work_folder::Beside;
 use vc_working::work::{checkout, status};
 
@@ -48,7 +52,19 @@ pub fn run<R, S, I, O, E>(
 ) -> u8
 where
     S: AsStr,
-    R: rt::Files<File = File> + Threads + Net + Beside<R> + AllocGlobal + Clone + Drop,
+    R: rt::Files<File = File>
+        + Threads
+        + Wait
+        + Net
+        + Clock
+        + Beside<R>
+        + AllocGlobal
+        + Clone
+        + Drop
+        + Send
+        + Sync,
+    R::Stream: Send,
+    R::Dir: Send,
     I: Read + Drop,
     O: Write,
     E: Write,
@@ -68,7 +84,19 @@ fn obey<R, S, I, O, E>(
 ) -> Result<u8, Failure>
 where
     S: AsStr,
-    R: rt::Files<File = File> + Threads + Net + Beside<R> + AllocGlobal + Clone + Drop,
+    R: rt::Files<File = File>
+        + Threads
+        + Wait
+        + Net
+        + Clock
+        + Beside<R>
+        + AllocGlobal
+        + Clone
+        + Drop
+        + Send
+        + Sync,
+    R::Stream: Send,
+    R::Dir: Send,
     I: Read + Drop,
     O: Write,
     E: Write,
@@ -173,7 +201,19 @@ fn perform<R, I, O, E>(
     faults: &mut Faults<E>,
 ) -> Result<bool, Failure>
 where
-    R: rt::Files<File = File> + Threads + Net + Beside<R> + AllocGlobal + Clone + Drop,
+    R: rt::Files<File = File>
+        + Threads
+        + Wait
+        + Net
+        + Clock
+        + Beside<R>
+        + AllocGlobal
+        + Clone
+        + Drop
+        + Send
+        + Sync,
+    R::Stream: Send,
+    R::Dir: Send,
     I: Read + Drop,
     O: Write,
     E: Write,
@@ -229,21 +269,71 @@ fn exchange<R, O, E>(
     faults: &mut Faults<E>,
 ) -> Result<bool, Failure>
 where
-    R: rt::Files<File = File> + Threads + Net + Beside<R> + AllocGlobal + Clone + Drop,
+    R: rt::Files<File = File>
+        + Threads
+        + Wait
+        + Net
+        + Clock
+        + Beside<R>
+        + AllocGlobal
+        + Clone
+        + Drop
+        + Send
+        + Sync,
+    R::Stream: Send,
+    R::Dir: Send,
     O: Write,
     E: Write,
 {
     match task {
-        RemoteTask::Serve { port, count } => {
-            serve(rt, store, port, count, output, faults)?;
+        RemoteTask::Serve(serving) => serve_store(rt, store, serving, output, faults),
+        RemoteTask::Fetch { port, timeout } => {
+            fetch(rt, store, Place { port, timeout }, output, faults)?;
             Ok(true)
         }
-        RemoteTask::Fetch { port } => {
-            fetch(rt, store, port, output, faults)?;
-            Ok(true)
+        RemoteTask::Push {
+            port,
+            timeout,
+            atomic,
+        } => {
+            let place = Place { port, timeout };
+            push(rt, store, place, atomic, items, output, faults)
         }
-        RemoteTask::Push { port, atomic } => {
-            push(rt, store, port, atomic, items, output, faults)
+    }
+}
+
+// Serves a store: one connection after the other, or all at once, if it is said how many those are.
+fn serve_store<R, O, E>(
+    rt: &R,
+    store: &str,
+    serving: Serving,
+    output: &mut O,
+    faults: &mut Faults<E>,
+) -> Result<bool, Failure>
+where
+    R: rt::Files<File = File>
+        + Threads
+        + Wait
+        + Net
+        + Clock
+        + Beside<R>
+        + AllocGlobal
+        + Clone
+        + Drop
+        + Send
+        + Sync,
+    R::Stream: Send,
+    R::Dir: Send,
+    O: Write,
+    E: Write,
+{
+    match serving.count {
+        Some(count) if serving.together => {
+            serve_together(rt, store, count, serving, output, faults)
+        }
+        _ => {
+            serve(rt, store, serving, output, faults)?;
+            Ok(true)
         }
     }
 }

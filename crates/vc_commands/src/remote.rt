@@ -10,7 +10,7 @@ use std::rt;
 use std::thread::Threads;
 use vc_cli::{Failure, Faults, keep_objects, only_writer, open_store, print_text};
 use vc_push_items::items_of;
-use vc_transport::{Progress, is_done, report_lines};
+use vc_transport::{Place, Progress, is_done, report_lines};
 
 // Where a person is told how far a long message is: on a terminal alone.
 fn progress_of<E: Write>(faults: &mut Faults<E>) -> Progress<&mut E>
@@ -24,7 +24,7 @@ fn progress_of<E: Write>(faults: &mut Faults<E>) -> Progress<&mut E>
 pub fn fetch<R, O, E>(
     rt: &R,
     store: &str,
-    port: u16,
+    place: Place,
     output: &mut O,
     faults: &mut Faults<E>,
 ) -> Result<(), Failure>
@@ -36,7 +36,7 @@ where
     let lock = only_writer(rt, store, faults)?;
     let _kept = keep_objects(rt, store)?;
     let mut progress = progress_of(faults);
-    let moved = match vc_remote::fetch(rt, lock, store, port, &mut progress) {
+    let moved = match vc_remote::fetch(rt, lock, store, place, &mut progress) {
         Ok(moved) => moved,
         Err(fault) => return Err(failure_of(fault)),
     };
@@ -52,7 +52,7 @@ where
 pub fn push<R, O, E>(
     rt: &R,
     store: &str,
-    port: u16,
+    place: Place,
     atomic: bool,
     items: &[&str],
     output: &mut O,
@@ -73,7 +73,7 @@ where
     // A report names what was pushed, which no ref of the clone need reach until then.
     let _kept = keep_objects(rt, store)?;
     let mut progress = progress_of(faults);
-    let report = match vc_remote::push(rt, lock, store, port, atomic, &items, &mut progress) {
+    let report = match vc_remote::push(rt, lock, store, place, atomic, &items, &mut progress) {
         Ok(report) => report,
         Err(fault) => return Err(failure_of(fault)),
     };
