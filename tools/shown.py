@@ -342,7 +342,7 @@ def names_of(crate, path, item, types, is_member=False):
     if found := IMPL.fullmatch(header_of(item)):
         parameters = re.findall(r"[<,] *(?:const )?(\w+)", found[1] or "")
         words = {*re.findall(r"\w+", found[2].partition(" for ")[2])} - {*parameters}
-        return {it for it in types if it[2] in words}
+        return {it for it in types if it[2] in words} or hidden_trait(crate, path, found[2])
     name = ITEM.match(head)
     if not name:
         return set()
@@ -354,6 +354,15 @@ def names_of(crate, path, item, types, is_member=False):
         return {(crate.name, it) for it in names}
     module = modules_around(crate, path)[-1].split("::")[2:]
     return paths_to(crate, path, names) | ways_to(".".join(["Rattle", crate.name, "specs.declared", *module, name[1]]))
+
+
+def hidden_trait(crate, path, header):
+    """The trait of an `impl` for a type that isn't known here, if it is its file's own and isn't `pub`: nothing has to do with the `impl` that
+    doesn't say the trait."""
+    trait = re.match(r"\w+", header)
+    if trait and re.search(rf"^trait {trait[0]}\b", text_of(crate, path), re.M):
+        return {(crate.name, trait[0])}
+    return set()
 
 
 def end_of_header(item):
