@@ -59,9 +59,13 @@ def free_port():
 
 
 def connect(port):
-    """A server that waits for a connection gets one."""
+    """A server that waits for a message gets one, and is heard to its end."""
     try:
-        socket.create_connection(("127.0.0.1", int(port)), 1).close()
+        with socket.create_connection(("127.0.0.1", int(port)), 1) as line:
+            line.sendall(b"0009list\n0000")
+            line.shutdown(socket.SHUT_WR)
+            while line.recv(65536):
+                pass
     except OSError:
         pass
 
