@@ -11,7 +11,7 @@ use Rattle.vc_desk.specs.declared.serve.NotServed.{NotServed}
 use Rattle.vc_desk.specs.declared.serve.NotServed.TheVariants.{Before, LogDiffers}
 use Rattle.vc_desk.specs.declared.work.End.{End}
 
--- the entry with its place, where it is of the connection, and more
+-- the entry with its place, if it is of the connection, and more
 abbrev pub receipts_then : ℕ → ℕ → EntryText → List (ℕ × EntryText) → List (ℕ × EntryText)
 receipts_then name place e es = if e.connection == name then (place, e) ∷ es else es
 
@@ -20,7 +20,7 @@ abbrev pub receipts_of : ℕ → ℕ → List EntryText → List (ℕ × EntryTe
 receipts_of name place [] = []
 receipts_of name place (e ∷ log) = receipts_then name place e (receipts_of name (place + 1) log)
 
--- the entry, where it was copied
+-- the entry, if it was copied
 abbrev pub IsCopy : Option EntryText → EntryText → Type 0
 IsCopy None e = ⊤
 IsCopy (Some copy) e = copy ≡ e

@@ -33,7 +33,7 @@ pub record PassesLimit (limit : ℕ) (old new : Option (List ℕ)) : Type 0 wher
 abbrev pub KeepsNone : ℕ → Option (List ℕ) → Option (List ℕ) → IncomingFault → Type 0
 KeepsNone limit old new e = Fails any_step beginning old new e ⊎ ((e ≡ Unread TooLarge) × PassesLimit limit old new)
 
--- the answer where a message within the limit is what the reader has first: its bytes are given and what is behind it is left, or the
+-- the answer if a message within the limit is what the reader has first: its bytes are given and what is after it is left, or the
 -- reader failed, or memory was short
 abbrev pub KeepsGiven : List ℕ → List ℕ → Option (List ℕ) → Result (Option (Vec ℕ Global)) IncomingFault → Type 0
 KeepsGiven bytes rest new (Ok (Some kept)) = (kept.items ≡ bytes) × (new ≡ Some rest)
@@ -64,7 +64,7 @@ is_over kept limit = nat_lt limit (length kept)
 abbrev pub refusal : List ℕ → ℕ → IncomingFault
 refusal kept limit = if is_over kept limit then Unread TooLarge else Memory
 
--- what is told where these bytes were kept of what was read
+-- what is told if these bytes were kept of what was read
 abbrev pub kept_as : Result (Option ⊤) IncomingFault → Vec ℕ Global → ℕ → Bool → Result (Option (Vec ℕ Global)) IncomingFault
 kept_as (Ok None) kept limit refused = Ok None
 kept_as (Ok (Some u)) kept limit refused = if is_over kept.items limit then Err (Unread TooLarge) else Ok (Some kept)

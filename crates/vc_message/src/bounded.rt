@@ -1,4 +1,4 @@
-//! What comes of a message that isn't taken, where it may have so much before its objects and no more.
+//! A message that may have so much before its objects and no more.
 ghost use Rattle.std.specs.Prelude.{◌<◌, IfErr, IfNone, IfOk, IfSome, IsErrOf, OnOk};
 ghost use Rattle.vc_message.specs.Bounded.{FailsWithin, IsBeyond, IsWithin};
 ghost use Rattle.vc_message.specs.Incoming.{TakesNothing};
@@ -23,7 +23,7 @@ pub struct Bound {
     pub lines: u64,
 }
 
-// Refuses to take one line more where as many lines or bytes were taken as there may be.
+// Refuses to take one line more if as many lines or bytes were taken as there may be.
 fn stay_within(bytes: u64, lines: u64, bound: Bound) -> Result<(), PktFault>
     ensures ok { OnOk result ((bytes < bound.bytes) × (lines < bound.lines)) }
     ensures fault { IfErr result (IsBeyond bound bytes lines) }
@@ -37,7 +37,7 @@ fn stay_within(bytes: u64, lines: u64, bound: Bound) -> Result<(), PktFault>
     Ok(())
 }
 
-/// The next message, or what stands before its objects where it carries some, as [`read_head`](crate::read_head) takes it. Where it has
+/// The next message, or what stands before its objects if it carries some, as [`read_head`](crate::read_head) takes it. If it has
 /// more of that than it may, it is refused as soon as this is known: more lines are too many (84), and more bytes too large (3).
 pub fn read_head_within<R: Source>(
     alloc: Global,

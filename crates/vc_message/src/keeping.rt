@@ -222,7 +222,7 @@ fn keep_at<J: Origin, R: Source>(
     (source, kept_as(skipped, kept, limit, refused))
 }
 
-/// Takes the next message, and no byte behind it, and gives its bytes; none where the source is at its end before the first byte. The
+/// Takes the next message, and no byte after it, and gives its bytes; none if the source is at its end before the first byte. The
 /// source is handed back.
 ///
 /// Bytes that are no message are refused with their first fault as soon as it has come, and a message of more bytes than the limit is
@@ -241,7 +241,7 @@ pub fn keep_message<R: Source>(
     keep_at::<Brand, R>(alloc, source, limit)
 }
 
-/// Where the bytes of a source are known, those that were kept of a message are the message's: each was needed, and they spell it.
+/// If the bytes of a source are known, those that were kept of a message are the message's: each was needed, and they spell it.
 pub fn kept_bytes_are_the_message()
     ensures { (limit : ℕ) (before bytes : List ℕ) (new : Option (List ℕ)) → KeepsMessage limit (Some before) new bytes → TakesThese (Some before) new bytes }
 {}

@@ -73,7 +73,7 @@ fn is_at_start(objects: &IncomingObjects, progress: &StreamProgress) -> bool
     }
 }
 
-/// What stands before the objects, where these come next; else the reader as it was.
+/// What stands before the objects, if these come next; else the reader as it was.
 pub(crate) fn head_of(state: AnyReader) -> Result<Head, AnyReader>
     ensures { MatchResult result (λ head. IsHeadAt head (reader_state state)) (λ same. reader_state same ≡ reader_state state) }
 {

@@ -68,7 +68,7 @@ where
             served = served.saturating_add(1);
         }
         if is_logged {
-            // Where nobody reads the log, the store is served all the same.
+            // If nobody reads the log, the store is served all the same.
             is_logged = match begun {
                 Ok(begun) => log(rt, &mut faults.stream, &peer, begun, &talk).is_ok(),
                 Err(_) => false,

@@ -52,8 +52,11 @@ where
     E: Write,
 {
     let listener = open_port(rt, store, serving.port, output, faults)?;
+    // The folder is the one that is there now, and not the one that stands at its path once all have come.
+    let files = HomeFiles::new(rt, store)?;
     let taken = take(rt.alloc(), &listener, count, serving)?;
-    serve_taken(rt, store, serving, taken, faults)
+    files.look_home()?;
+    serve_taken(rt, store, serving, files, taken, faults)
 }
 
 // Serves the connections that were taken.
@@ -61,6 +64,7 @@ fn serve_taken<R, E>(
     rt: &R,
     store: &str,
     serving: Serving,
+    files: HomeFiles<R>,
     taken: Taken<R::Stream>,
     faults: &mut Faults<E>,
 ) -> Result<bool, Failure>
@@ -84,7 +88,7 @@ where
     let _lock = only_writer(rt, store, faults)?;
     let _kept = keep_objects(rt, store)?;
     let Taken { connections, peers } = taken;
-    let shared = match Shared::open(alloc, HomeFiles::new(rt, store)?) {
+    let shared = match Shared::open(alloc, files) {
         Ok(shared) => shared,
         Err((_files, fault)) => return Err(Failure::Node(fault)),
     };
@@ -98,7 +102,8 @@ where
     let mut files = kept.into_shared().close();
     files.sync(alloc)?;
     if serving.log {
-        log_ends(rt, &mut faults.stream, &peers, &ends, begun)?;
+        // If nobody reads the log, what comes after it is told all the same.
+        let _ = log_ends(rt, &mut faults.stream, &peers, &ends, begun);
     }
     if let Some(fault) = fault_in(&ends) {
         return Err(Failure::Fault(fault));

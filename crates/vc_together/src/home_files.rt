@@ -2,7 +2,7 @@
 ghost use Rattle.std.specs.Prelude.{◌≡◌, ◌≤◌, IsErrOf};
 ghost use Rattle.vc_files.specs.Failures.{HasFailed, unstopped};
 
-use std::alloc::{AllocError, Global};
+use std::alloc::Global;
 use std::collections::BTreeMap;
 use std::fs::File;
 use std::marker::Model;
@@ -82,7 +82,7 @@ where
         if self.bytes >= MOST_WAITING {
             self.sync(alloc)?;
         }
-        let copy = copied(alloc, bytes)?;
+        let copy = bytes.to_vec(alloc)?;
         self.waiting.insert(String::from_str(alloc, path)?, copy)?;
         self.bytes = self.bytes.saturating_add(bytes.len());
         Ok(())
@@ -90,7 +90,7 @@ where
 
     fn get(&mut self, alloc: Global, path: &str) -> Result<Option<Vec<u8>>, Fault> {
         if let Some(bytes) = self.waiting.get(path) {
-            return Ok(Some(copied(alloc, bytes.as_slice())?));
+            return Ok(Some(bytes.as_slice().to_vec(alloc)?));
         }
         let found = self.open()?.get(alloc, path)?;
         if found.is_none() {
@@ -133,12 +133,6 @@ where
     }
 }
 
-fn copied(alloc: Global, bytes: &[u8]) -> Result<Vec<u8>, AllocError> {
-    let mut copy = Vec::new(alloc);
-    copy.extend_from_slice(bytes)?;
-    Ok(copy)
-}
-
 /// The files of the store in a folder, of which nothing is claimed, as of [`FolderFiles`]. Threads may hand them on.
 ///
 /// An object waits in memory until a file that is none is put or so many bytes wait; then all that wait are put into the folder and made
@@ -168,6 +162,11 @@ where
             store: HomeStore::new(rt, folder)?,
             failed: 0,
         })
+    }
+
+    /// A folder that was moved, or whose disk is gone, is a failure of the device.
+    pub(crate) fn look_home(&self) -> Result<(), Fault> {
+        self.store.look_home()
     }
 
     /// Makes all that was put durable.

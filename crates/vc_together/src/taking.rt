@@ -1,6 +1,6 @@
 // The connections that are served at once.
 use std::alloc::Global;
-use std::io::{BufReader, Read};
+use std::io::{self, BufReader, Read};
 use std::net::{OpenListener, OpenStream, SocketAddr};
 use vc_arguments::Serving;
 use vc_files::Fault;
@@ -58,10 +58,7 @@ where
 }
 
 // A stream to read from and to write to.
-fn both_ways<S: Read + OpenStream + Drop>(
-    alloc: Global,
-    stream: S,
-) -> std::io::Result<Connection<S>> {
+fn both_ways<S: Read + OpenStream + Drop>(alloc: Global, stream: S) -> io::Result<Connection<S>> {
     let writer = stream.try_clone()?;
     let reader = BufReader::new(alloc, stream)?;
     Ok((Fallible::new(reader), writer))

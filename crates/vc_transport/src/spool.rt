@@ -99,7 +99,7 @@ impl<R: rt::Files + AllocGlobal + Clone + Drop> Spool<R> {
         }
     }
 
-    /// What was kept, to be read from its first byte on; none where it is too large; or why some of it is lost.
+    /// What was kept, to be read from its first byte on; none if it is too large; or why some of it is lost.
     pub(crate) fn finish(self) -> Result<Option<Spooled<R::File>>, Fault> {
         let Spool {
             rt,
@@ -191,7 +191,7 @@ pub enum Spooled<F> {
 }
 
 impl<F: Read> Spooled<F> {
-    /// Some of the first bytes, which stay; none where there are none.
+    /// Some of the first bytes, which stay; none if there are none.
     pub fn front(&mut self) -> io::Result<&[u8]> {
         match self {
             Spooled::Memory(held) => held.fill_buf(),
