@@ -213,6 +213,25 @@ impl<R: rt::Files + Syncs<R::File> + AllocGlobal + Clone + Drop> Disk<R> {
         self.unmark(alloc)
     }
 
+    /// Puts files in their order, none of them an object, at once durable: all contents first, with those of what was put before; then
+    /// the names of what was put before; then these names.
+    pub fn put_all(&mut self, alloc: Global, files: &[(String, Vec<u8>)]) -> io::Result<()> {
+        self.mark(alloc)?;
+        for (path, bytes) in files {
+            self.look(alloc, path.as_str())?;
+            let file = self.write_lock(alloc, path.as_str(), bytes.as_slice(), Durable::Later)?;
+            let added = self.syncing.add(&self.root.rt, alloc, file);
+            self.or_give_up(alloc, added)?;
+        }
+        self.bring_all(alloc)?;
+        for (path, _) in files {
+            self.note_folder(alloc, path.as_str())?;
+            self.put_in_place(alloc, path.as_str())?;
+        }
+        self.sync_folders(alloc)?;
+        self.unmark(alloc)
+    }
+
     fn put_later(&mut self, alloc: Global, path: &str, bytes: &[u8]) -> io::Result<()> {
         if self.waiting.contains(path) {
             // The lock name is taken by what was put before, which an error must not lose.

@@ -67,6 +67,17 @@ impl<R: rt::Files + Syncs<R::File> + AllocGlobal + Clone + Drop> FolderFiles<R> 
         self.settle(done)
     }
 
+    /// Puts files in their order, no two at one path and none of them an object. When it returns they are durable, and so is all that was
+    /// put before: one sync for all, and not one for each. A stop before leaves the first of them in place, and none with less than its
+    /// content; after a loss of power any of them may be in place, or none.
+    pub fn put_all(&mut self, alloc: Global, files: &[(String, Vec<u8>)]) -> Result<(), Fault>
+        ensures later { self.old ≤ self.new }
+        ensures device { IsErrOf result Fault.Device → HasFailed self.old self.new }
+    {
+        let done = self.disk.put_all(alloc, files);
+        self.settle(done)
+    }
+
     // Counts what the device failed to do.
     fn settle<T: Drop>(&mut self, done: io::Result<T>) -> Result<T, Fault>
         ensures later { self.old ≤ self.new }
