@@ -1,20 +1,25 @@
 //! The shared node of the rows, and the connections that wait for it.
 
-use crate::telling::push_served;
+use crate::telling::{push_pooled, push_served};
 use crate::turnstile::Turnstile;
+use crate::waiting::{Waiting, list_of};
 use bstr::ByteVec;
 use std::alloc::{AllocError, Global};
+use std::fmt::Write;
 use std::io::Cursor;
 use std::mem;
 use std::sync::Wait;
 use std::thread::Threads;
-use vc_desk::serve_all;
+use vc_desk::{serve_all, serve_ports};
 use vc_files::MemoryFiles;
 use vc_message::Fallible;
 use vc_shared::Shared;
 
+/// What comes over a connection.
+pub type Reader = Fallible<Cursor<Vec<u8>>>;
+
 /// What comes over a connection, and what is written there.
-pub type Connection = (Fallible<Cursor<Vec<u8>>>, Vec<u8>);
+pub type Connection = (Reader, Vec<u8>);
 
 /// A shared node, and connections to it.
 #[derive(Drop)]
@@ -67,6 +72,37 @@ impl Site {
         let gate = Turnstile::new();
         let served = serve_all(rt, self.alloc, u64::MAX, node, connections, &gate);
         push_served(out, &served)?;
+        if gate.ran_out() {
+            return out.push_str(", the turns ran out");
+        }
+        Ok(())
+    }
+
+    /// The connections are served by so many workers, and what came of them is told.
+    pub fn pool<T: Threads + Wait + Clone + Drop + Send + Sync>(
+        &mut self,
+        rt: &T,
+        out: &mut String,
+        text: &str,
+    ) -> Result<(), AllocError> {
+        let Ok(workers) = text.parse::<u8>() else {
+            return out.push_str("no number");
+        };
+        let Some(node) = self.node.take() else {
+            return out.push_str("no node");
+        };
+        let connections = mem::replace(&mut self.connections, Vec::new(self.alloc));
+        let count = connections.len();
+        let list = list_of(self.alloc, connections)?;
+        let mut ports = Vec::new(self.alloc);
+        for _ in 0..workers {
+            ports.push(Waiting::new(rt, self.alloc, &list)?)?;
+        }
+        let gate = Turnstile::new();
+        match serve_ports(rt, self.alloc, u64::MAX, node, ports, &gate) {
+            Ok((_node, ports)) => push_pooled(self.alloc, out, count, &ports)?,
+            Err((_node, _ports, fault)) => return write!(out, "{fault}"),
+        }
         if gate.ran_out() {
             return out.push_str(", the turns ran out");
         }

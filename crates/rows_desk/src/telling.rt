@@ -1,8 +1,10 @@
 //! What came of connections that were served at once, in words.
 
+use crate::waiting::Waiting;
 use bstr::ByteSlice;
-use std::alloc::AllocError;
+use std::alloc::{AllocError, Global};
 use std::fmt::Write;
+use std::mem;
 use vc_desk::{All, End, Ended, Entry, NotServed};
 use vc_files::MemoryFiles;
 
@@ -69,6 +71,76 @@ pub fn push_served<R>(out: &mut String, served: &Served<R>) -> Result<(), AllocE
     for is_ok in [true, false] {
         for end in &all.ends {
             if (told_of_main(end) == "ok") == is_ok {
+                push_end(out, end)?;
+            }
+        }
+    }
+    Ok(())
+}
+
+// Whether each of so many entries has a place of its own below their count.
+fn have_places<T>(alloc: Global, count: usize, ports: &[Waiting<T>]) -> Result<bool, AllocError> {
+    let mut taken = Vec::new(alloc);
+    for _ in 0..count {
+        taken.push(false)?;
+    }
+    for port in ports {
+        for (_name, end) in &port.ends {
+            for receipt in &end.receipts {
+                let Some(place) = taken.get_mut(receipt.place as usize) else {
+                    return Ok(false);
+                };
+                if mem::replace(place, true) {
+                    return Ok(false);
+                }
+            }
+        }
+    }
+    Ok(true)
+}
+
+// How many entries the connections had.
+fn entries_of<T>(ports: &[Waiting<T>]) -> usize {
+    let mut count: usize = 0;
+    for port in ports {
+        for (_name, end) in &port.ends {
+            count = count.saturating_add(end.receipts.len());
+        }
+    }
+    count
+}
+
+/// How many entries there were and whether each has a place of its own, and each of so many connections: first those that were told
+/// `ok`.
+pub fn push_pooled<T>(
+    alloc: Global,
+    out: &mut String,
+    connections: usize,
+    ports: &[Waiting<T>],
+) -> Result<(), AllocError> {
+    let count = entries_of(ports);
+    write!(out, "{count} entries")?;
+    if !have_places(alloc, count, ports)? {
+        out.push_str(", not each at its own place")?;
+    }
+    for is_ok in [true, false] {
+        for name in 0..connections {
+            push_named(out, name as u64, is_ok, ports)?;
+        }
+    }
+    Ok(())
+}
+
+// The ends of the connection of this name, if it was told `ok`, or if it was not.
+fn push_named<T>(
+    out: &mut String,
+    name: u64,
+    is_ok: bool,
+    ports: &[Waiting<T>],
+) -> Result<(), AllocError> {
+    for port in ports {
+        for (ended, end) in &port.ends {
+            if *ended == name && (told_of_main(end) == "ok") == is_ok {
                 push_end(out, end)?;
             }
         }

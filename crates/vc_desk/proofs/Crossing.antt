@@ -12,6 +12,7 @@ use Rattle.vc_shared.specs.contracts.shared.Shared as Shared
 use Rattle.vc_desk.specs.declared.locked.Origin as origin
 use Rattle.vc_desk.specs.contracts.kept.Kept as Kept
 use Rattle.vc_desk.specs.contracts.locked.Locked as Locked
+use Rattle.vc_desk.specs.contracts.watched.Watched as Watched
 use Rattle.vc_desk.proofs.entry.Entry.TheSendSync as entry
 
 generations_send : IsSend Generations.the_row
@@ -36,3 +37,6 @@ module _ (F : RattleType) (f : files.Ghosts F.Denot) (s : IsSend F) where
 
     pub desk_sync : IsSync (Mutex.the_row (Locked.the_row F J f o))
     desk_sync = let a = locked_send in search (sendable, crosses) depth 30
+
+    pub watched_send : IsSend (Watched.the_row F J f o)
+    watched_send = let a = shared_send in search (sendable, crosses) depth 30

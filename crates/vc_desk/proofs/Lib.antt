@@ -5,3 +5,5 @@ mod Comparing
 mod Serving
 mod LawLemmas
 mod Crossing
+mod Making
+mod Pooling

@@ -4,3 +4,5 @@ pub mod Talk
 pub mod Served
 pub mod Laws
 pub mod Parts
+pub mod Watching
+pub mod Pool

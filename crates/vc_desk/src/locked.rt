@@ -5,6 +5,7 @@ ghost use Rattle.vc_desk.specs.Entry.EventText.{Accepts, Steps};
 ghost use Rattle.vc_desk.specs.Runs.{Adds, Held};
 ghost use Rattle.vc_desk.specs.Talk.{IsOf};
 
+use crate::desk::Desk;
 use crate::entry::Entry;
 use crate::kept::Kept;
 use std::alloc::AllocError;
@@ -70,9 +71,16 @@ impl<F: Files, J: Origin> Locked<F, J> {
         let Locked { kept, of: _ } = self;
         kept
     }
+}
 
-    /// One event under one hold of the lock: the node takes these bytes for a connection, and the entry is copied.
-    pub(crate) fn accept(&mut self, connection: u64, bytes: &[u8]) -> Result<Receipt, AllocError>
+// What is known of the receipts is known by the whole log.
+impl<F: Files, J: Origin> Desk for Locked<F, J> {
+    ghost use Rattle.std.specs.Prelude.{⊤};
+
+    ghost made = { λ receipt. ⊤ };
+
+    // The entry is copied under the same hold of the lock.
+    fn accept(&mut self, connection: u64, bytes: &[u8]) -> Result<Receipt, AllocError>
         ensures adds { OnOk result (Adds F.honest (Held F.content) connection (Accepts bytes.now) self.old self.new) }
         ensures place { IfOk result (λ receipt. receipt.place ≡ length self.old.log) }
         ensures mine { IsOf connection (Accepts bytes.now) result }
@@ -83,8 +91,7 @@ impl<F: Files, J: Origin> Locked<F, J> {
         Ok(Receipt { place, entry })
     }
 
-    /// The same of a step of the push in this slot.
-    pub(crate) fn step(&mut self, connection: u64, slot: u8) -> Result<Receipt, AllocError>
+    fn step(&mut self, connection: u64, slot: u8) -> Result<Receipt, AllocError>
         ensures adds { OnOk result (Adds F.honest (Held F.content) connection (Steps slot) self.old self.new) }
         ensures place { IfOk result (λ receipt. receipt.place ≡ length self.old.log) }
         ensures mine { IsOf connection (Steps slot) result }

@@ -68,7 +68,7 @@ fn start<
     J: Origin + Send + Sync,
     R: Source + Drop + Send + 's,
     W: Write + Drop + Send + 's,
-    G: Gate,
+    G: Gate + Sync,
     T: Wait + Sync,
 >(
     scope: &Scope<'s, E>,
@@ -145,7 +145,7 @@ fn run_in<
     J: Origin + Send + Sync,
     R: Source + Drop + Send + 's,
     W: Write + Drop + Send + 's,
-    G: Gate,
+    G: Gate + Sync,
     T: Threads + Wait + Sync,
 >(
     scope: &Scope<'s, E>,
@@ -194,7 +194,7 @@ fn serve_in_scope<
     J: Origin + Send + Sync,
     R: Source + Drop + Send,
     W: Write + Drop + Send,
-    G: Gate,
+    G: Gate + Sync,
     T: Threads + Wait + Sync,
 >(
     rt: &'x T,
@@ -240,7 +240,7 @@ fn serve_at<
     F: Files + Send,
     R: Source + Drop + Send,
     W: Write + Drop + Send,
-    G: Gate,
+    G: Gate + Sync,
     T: Threads + Wait + Sync,
 >(
     rt: &T,
@@ -298,7 +298,7 @@ pub fn serve_all<
     F: Files + Send,
     R: Source + Drop + Send,
     W: Write + Drop + Send,
-    G: Gate,
+    G: Gate + Sync,
     T: Threads + Wait + Sync,
 >(
     rt: &T,

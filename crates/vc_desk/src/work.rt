@@ -1,16 +1,18 @@
 // The worker of one connection.
-ghost use Rattle.std.specs.Prelude.{◌<◌, None, Some, map, option_map, vec_capacity, vec_len};
+ghost use Rattle.std.specs.Prelude.{◌≡◌, ◌<◌, ◌∷◌, ◌++◌, [], MatchResult, None, Some, map, option_map, vec_capacity, vec_len};
+ghost use Rattle.std.specs.List.{AllByRecursion};
 ghost use Rattle.vc_server.specs.Telling.{error_bytes};
 ghost use Rattle.vc_desk.specs.Entry.{EventText, answer_text};
 ghost use Rattle.vc_desk.specs.Talk.{Closes, Ends, IsOf, Refuses, Settles, Tells, TellsFailure, Turns, Writes, receipt_text};
 ghost use Rattle.vc_desk.specs.Talk.Came.{no_message};
 
+use crate::desk::Desk;
 use crate::entry::{Answer, Failure};
-use crate::locked::{Locked, Origin, Receipt};
+use crate::locked::Receipt;
 use std::alloc::{AllocError, Global};
 use std::io::Write;
 use std::sync::{Mutex, Wait};
-use vc_files::{Fault, Files};
+use vc_files::Fault;
 use vc_message::{IncomingFault, Source, keep_message};
 use vc_server::{error_bytes, send, unread_number};
 use vc_shared::SharedFault;
@@ -38,9 +40,16 @@ pub struct End<W> {
     pub receipts: Vec<Receipt>,
 }
 
-/// What is called after each entry of a connection, with the number of its entries so far, while no lock is held.
-pub trait Gate: Sync {
+/// What is called beside the events of a connection, while no lock is held.
+pub trait Gate {
+    /// Called after each entry of a connection, with the number of its entries so far.
     fn pass(&self, connection: u64, entries: u64);
+
+    /// Called before the event of a message of these bytes. A gate may wait here until fewer pushes are open.
+    fn enter(&self, _connection: u64, _bytes: &[u8]) {}
+
+    /// Called once no push of the connection is open, before what became of it is told.
+    fn leave(&self, _connection: u64) {}
 }
 
 // What comes after a turn: another, in which the push in this slot is stepped, if one is open; or none.
@@ -116,6 +125,31 @@ fn tell_receipt<W: Write>(
     }
 }
 
+// Whether a push of the connection may be open after an entry: without the entry that isn't known.
+fn may_be_open(receipt: &Receipt) -> bool {
+    match &receipt.entry {
+        Some(entry) => goes_on(&entry.answer),
+        None => true,
+    }
+}
+
+// Whether a push is open after an answer.
+fn goes_on(answer: &Answer) -> bool {
+    match answer {
+        Answer::Replied(_) => false,
+        Answer::Finished(_) => false,
+        Answer::Failed(_) => false,
+        _ => true,
+    }
+}
+
+// The gate is told if no push of the connection is open.
+fn leave_closed<G: Gate>(gate: &G, name: u64, receipt: &Receipt) {
+    if !may_be_open(receipt) {
+        gate.leave(name);
+    }
+}
+
 // What was done under the lock is told, and its receipt is kept.
 fn settle<W: Write, G: Gate>(
     alloc: Global,
@@ -127,11 +161,13 @@ fn settle<W: Write, G: Gate>(
     receipts: &mut Vec<Receipt>,
 ) -> Next
     requires { vec_len receipts.old < vec_capacity receipts.old }
-    ensures { (event : EventText) → IsOf name event took → Settles name current event (W.contents writer.old) (W.contents writer.new) (map receipt_text receipts.old.items) (map receipt_text receipts.new.items) result }
+    ensures settles { (event : EventText) → IsOf name event took → Settles name current event (W.contents writer.old) (W.contents writer.new) (map receipt_text receipts.old.items) (map receipt_text receipts.new.items) result }
+    ensures kept { MatchResult took (λ receipt. receipts.new.items ≡ receipts.old.items ++ receipt ∷ []) (λ _. receipts.new.items ≡ receipts.old.items) }
 {
     let Ok(receipt) = took else {
         return Next::Stops(Ended::Fault(Fault::Memory));
     };
+    leave_closed(gate, name, &receipt);
     let next = tell_receipt(alloc, writer, current, &receipt);
     receipts.push_reserved(receipt);
     gate.pass(name, receipts.len() as u64);
@@ -152,11 +188,11 @@ fn close<W: Write>(alloc: Global, writer: &mut W, fault: &IncomingFault) -> Next
 }
 
 // One event of the node, or the end of the connection.
-fn turn<F: Files, J: Origin, R: Source + Drop, W: Write, G: Gate, T: Wait>(
+fn turn<N: Desk, R: Source + Drop, W: Write, G: Gate, T: Wait>(
     rt: &T,
     alloc: Global,
     limit: u64,
-    desk: &Mutex<Locked<F, J>>,
+    desk: &Mutex<N>,
     gate: &G,
     name: u64,
     current: Option<u8>,
@@ -166,6 +202,7 @@ fn turn<F: Files, J: Origin, R: Source + Drop, W: Write, G: Gate, T: Wait>(
 ) -> (R, Next)
     ensures turns { Turns limit (R.can_fail reader) name current (R.remaining reader) (R.remaining result.0) (W.contents writer.old) (W.contents writer.new) (map receipt_text receipts.old.items) (map receipt_text receipts.new.items) result.1 }
     ensures calm { R.can_fail result.0 → R.can_fail reader }
+    ensures made { AllByRecursion N.made (map receipt_text receipts.old.items) → AllByRecursion N.made (map receipt_text receipts.new.items) }
 {
     if receipts.reserve(1).is_err() {
         return (reader, Next::Stops(Ended::Fault(Fault::Memory)));
@@ -178,6 +215,7 @@ fn turn<F: Files, J: Origin, R: Source + Drop, W: Write, G: Gate, T: Wait>(
     let (rest, came) = keep_message(alloc, reader, limit);
     match came {
         Ok(Some(bytes)) => {
+            gate.enter(name, bytes.as_slice());
             let took = desk.lock(rt).accept(name, bytes.as_slice());
             let next = settle(alloc, gate, name, current, took, writer, receipts);
             (rest, next)
@@ -191,17 +229,18 @@ fn turn<F: Files, J: Origin, R: Source + Drop, W: Write, G: Gate, T: Wait>(
 }
 
 /// Serves a connection to its end: its messages in order, each open push stepped to its end, and each answer written.
-pub(crate) fn work<F: Files, J: Origin, R: Source + Drop, W: Write, G: Gate, T: Wait>(
+pub(crate) fn work<N: Desk, R: Source + Drop, W: Write, G: Gate, T: Wait>(
     rt: &T,
     alloc: Global,
     limit: u64,
-    desk: &Mutex<Locked<F, J>>,
+    desk: &Mutex<N>,
     gate: &G,
     name: u64,
     reader: R,
     mut writer: W,
 ) -> End<W>
-    ensures { Ends limit (R.can_fail reader) name (R.remaining reader) (W.contents writer) (W.contents result.writer) (map receipt_text result.receipts.items) result.ended }
+    ensures ends { Ends limit (R.can_fail reader) name (R.remaining reader) (W.contents writer) (W.contents result.writer) (map receipt_text result.receipts.items) result.ended }
+    ensures made { AllByRecursion N.made (map receipt_text result.receipts.items) }
 {
     let mut receipts = Vec::new(alloc);
     let mut current = None;
