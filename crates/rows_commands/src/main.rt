@@ -53,6 +53,7 @@ where
         + Send
         + Sync,
     R::Stream: Send,
+    R::Listener: Sync,
     R::Dir: Send,
     W: Write,
 {
@@ -95,6 +96,7 @@ where
         + Send
         + Sync,
     R::Stream: Send,
+    R::Listener: Sync,
     R::Dir: Send,
     W: Write,
 {
@@ -141,6 +143,7 @@ where
         + Send
         + Sync,
     R::Stream: Send,
+    R::Listener: Sync,
     R::Dir: Send,
     W: Write,
 {

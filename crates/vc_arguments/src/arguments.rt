@@ -80,6 +80,8 @@ pub struct Serving {
     pub count: Option<u32>,
     /// Whether so many connections are taken first, and served at once.
     pub together: bool,
+    /// How many connections are served at once; none: one after the other.
+    pub workers: Option<u32>,
     /// After how many seconds a client that sends or takes nothing is given up; 0: never.
     pub timeout: u32,
     /// How many MiB a message has at most.

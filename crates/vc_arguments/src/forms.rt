@@ -17,6 +17,9 @@ const MOST_PORT: u64 = 65_535;
 
 const MOST_CONNECTIONS: u64 = 1_000_000;
 
+// Each has a thread.
+const MOST_WORKERS: u64 = 256;
+
 const MOST_SECONDS: u64 = 86_400;
 
 const MOST_MEBIBYTES: u64 = 1_048_576;
@@ -52,6 +55,8 @@ enum Given {
     Number(u64),
     // The same, but it may be left out.
     MaybeNumber(u64),
+    // The same, beside which this option may not be there.
+    NumberWithout(u64, &'static str),
     // By an option, as a number from this one to this, or else it is this.
     NumberOr(u64, u64, &'static str),
     // By an option that takes no value.
@@ -341,7 +346,7 @@ const FORMS: [Form; 21] = [
     Form {
         name: "serve",
         about: "Let clones on this machine fetch from the store and push to it",
-        after: "Prints \"listening\" and the port once it is open, and serves one connection after the other. Commands on\nthe store may run meanwhile, also in the middle of a long push. Only a fault of its own, no memory or a\nfailed disk, ends it early, with status 3; what a client sends never does. It ends so, too, once its folder\nwas moved or its disk is gone. It may be killed at any time: nothing that a client was told is lost. A\nconnection on which no message came counts as none.\n\nWith --together so many connections are taken first, and the store is this server's alone until the last of them is closed:\nno other command writes to it meanwhile.\n\nA line of the log has the seconds since 1970, the client, what was asked last and what became of it, how many\nbytes came and went, and how many milliseconds the connection lasted.\n\nExample: vcs serve --store shared --port 7000 --log 2>> served.log",
+        after: "Prints \"listening\" and the port once it is open, and serves one connection after the other. Commands on\nthe store may run meanwhile, also in the middle of a long push. Only a fault of its own, no memory or a\nfailed disk, ends it early, with status 3; what a client sends never does. It ends so, too, once its folder\nwas moved or its disk is gone. It may be killed at any time: nothing that a client was told is lost. A\nconnection on which no message came counts as none.\n\nWith --workers so many connections are served at once, each as soon as a worker is free, and updates that come at the same\ntime are made durable together. With --together so many connections are taken first. With either the store is this server's\nalone until it ends: no other command writes to it meanwhile.\n\nA line of the log has the seconds since 1970, the client, what was asked last and what became of it, how many\nbytes came and went, and how many milliseconds the connection lasted.\n\nExample: vcs serve --store shared --port 7000 --workers 16 --log 2>> served.log",
         arguments: &[
             STORE,
             PORT,
@@ -356,6 +361,12 @@ const FORMS: [Form; 21] = [
                 value: "",
                 given: Given::SwitchBeside("count"),
                 help: "Take so many connections first, then serve all of them at once",
+            },
+            Argument {
+                id: "workers",
+                value: "workers",
+                given: Given::NumberWithout(MOST_WORKERS, "together"),
+                help: "Serve so many connections at once, 1 to 256; more wait",
             },
             TIMEOUT,
             Argument {
@@ -463,6 +474,11 @@ fn arg_of<'a>(alloc: Global, argument: &Argument) -> Result<Arg<'a>, AllocError>
             .long(argument.id)
             .value_name(argument.value)
             .value_parser(ValueParser::Unsigned(1, most)),
+        Given::NumberWithout(most, other) => arg
+            .long(argument.id)
+            .value_name(argument.value)
+            .value_parser(ValueParser::Unsigned(1, most))
+            .conflicts_with(other)?,
         Given::NumberOr(least, most, value) => arg
             .long(argument.id)
             .value_name(argument.value)

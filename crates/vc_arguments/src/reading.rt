@@ -109,6 +109,7 @@ fn serving_of(words: &ArgMatches<'_>) -> Option<Serving> {
         port: words.get_one::<u16>("port")?,
         count: words.get_one::<u32>("count"),
         together: words.get_flag("together"),
+        workers: words.get_one::<u32>("workers"),
         timeout: words.get_one::<u32>("timeout")?,
         limit: words.get_one::<u64>("limit")?,
         log: words.get_flag("log"),

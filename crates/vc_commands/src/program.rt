@@ -35,7 +35,7 @@ use vc_reading::rev_parse::rev_parse;
 use vc_reading::show_ref::show_ref;
 use vc_reading::{Input, Lists, line_of_refusal};
 use vc_serving::serve;
-use vc_together::serve_together;
+use vc_together::{serve_by_workers, serve_together};
 use vc_transport::Place;
 use vc_work_folder::Beside;
 use vc_working::work::{checkout, status};
@@ -64,10 +64,11 @@ where
         + Send
         + Sync,
     R::Stream: Send,
+    R::Listener: Sync,
     R::Dir: Send,
     I: Read + Drop,
     O: Write,
-    E: Write,
+    E: Write + Send,
 {
     match obey(rt, words, input, output, faults) {
         Ok(status) => status,
@@ -96,10 +97,11 @@ where
         + Send
         + Sync,
     R::Stream: Send,
+    R::Listener: Sync,
     R::Dir: Send,
     I: Read + Drop,
     O: Write,
-    E: Write,
+    E: Write + Send,
 {
     let matches = match command(rt.alloc())?.try_get_matches_from(words) {
         Ok(matches) => matches,
@@ -213,10 +215,11 @@ where
         + Send
         + Sync,
     R::Stream: Send,
+    R::Listener: Sync,
     R::Dir: Send,
     I: Read + Drop,
     O: Write,
-    E: Write,
+    E: Write + Send,
 {
     let store = request.store;
     if let Task::HashObject {
@@ -281,9 +284,10 @@ where
         + Send
         + Sync,
     R::Stream: Send,
+    R::Listener: Sync,
     R::Dir: Send,
     O: Write,
-    E: Write,
+    E: Write + Send,
 {
     match task {
         RemoteTask::Serve(serving) => serve_store(rt, store, serving, output, faults),
@@ -323,19 +327,22 @@ where
         + Send
         + Sync,
     R::Stream: Send,
+    R::Listener: Sync,
     R::Dir: Send,
     O: Write,
-    E: Write,
+    E: Write + Send,
 {
     match serving.count {
         Some(count) if serving.together => {
-            serve_together(rt, store, count, serving, output, faults)
+            return serve_together(rt, store, count, serving, output, faults);
         }
-        _ => {
-            serve(rt, store, serving, output, faults)?;
-            Ok(true)
-        }
+        _ => {}
     }
+    match serving.workers {
+        Some(workers) => serve_by_workers(rt, store, workers, serving, output, faults)?,
+        None => serve(rt, store, serving, output, faults)?,
+    }
+    Ok(true)
 }
 
 // Does what is asked of a clone's index, branches, HEAD and work tree.

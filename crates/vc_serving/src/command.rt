@@ -45,6 +45,21 @@ where
     E: Write,
 {
     make_ready(rt, store, faults)?;
+    listen(rt, port, output, faults)
+}
+
+/// Opens a port. The line `listening`, with the port, is printed once it is open.
+pub fn listen<R, O, E>(
+    rt: &R,
+    port: u16,
+    output: &mut O,
+    faults: &mut Faults<E>,
+) -> Result<R::Listener, Failure>
+where
+    R: rt::Files + Net + AllocGlobal,
+    O: Write,
+    E: Write,
+{
     let listener = match bind(rt, port) {
         Ok(listener) => listener,
         Err(error) => return Err(unopened(rt, port, error, faults)?),
@@ -54,8 +69,8 @@ where
     Ok(listener)
 }
 
-// Makes the store that of a shared node, or tells why it is none, before anybody is served.
-fn make_ready<R, E>(rt: &R, store: &str, faults: &mut Faults<E>) -> Result<(), Failure>
+/// Makes the store that of a shared node, or tells why it is none, before anybody is served.
+pub fn make_ready<R, E>(rt: &R, store: &str, faults: &mut Faults<E>) -> Result<(), Failure>
 where
     R: rt::Files<File = File> + Threads + AllocGlobal + Clone + Drop,
     E: Write,

@@ -15,6 +15,6 @@ pub mod talk;
 mod turn;
 
 pub use answering::make_shared;
-pub use command::{open_port, serve};
+pub use command::{listen, make_ready, open_port, serve};
 pub use serving::{MEBIBYTE, pass_over};
 pub use turn::serve_once;

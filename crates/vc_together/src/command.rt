@@ -1,6 +1,7 @@
 //! The subcommand `serve` with connections at once.
 
 use crate::home_files::HomeFiles;
+use crate::store::GroupStore;
 use crate::taking::{Taken, take};
 use crate::telling::{fault_in, log_ends};
 use std::fs::File;
@@ -18,8 +19,8 @@ use vc_local::NodeFault;
 use vc_serving::{MEBIBYTE, open_port};
 use vc_shared::Shared;
 
-// Nothing is waited for between two entries.
-struct Open;
+/// Nothing is waited for between two entries.
+pub(crate) struct Open;
 
 impl Gate for Open {
     fn pass(&self, _connection: u64, _entries: u64) {}
@@ -53,10 +54,10 @@ where
 {
     let listener = open_port(rt, store, serving.port, output, faults)?;
     // The folder is the one that is there now, and not the one that stands at its path once all have come.
-    let files = HomeFiles::new(rt, store)?;
-    let taken = take(rt.alloc(), &listener, count, serving)?;
-    files.look_home()?;
-    serve_taken(rt, store, serving, files, taken, faults)
+    let home = GroupStore::new(rt, store)?;
+    let taken = take(rt.alloc(), &home, &listener, count, serving.timeout)?;
+    home.look_home()?;
+    serve_taken(rt, store, serving, &home, taken, faults)
 }
 
 // Serves the connections that were taken.
@@ -64,8 +65,8 @@ fn serve_taken<R, E>(
     rt: &R,
     store: &str,
     serving: Serving,
-    files: HomeFiles<R>,
-    taken: Taken<R::Stream>,
+    home: &GroupStore<R>,
+    taken: Taken<'_, R, R::Stream>,
     faults: &mut Faults<E>,
 ) -> Result<bool, Failure>
 where
@@ -88,7 +89,7 @@ where
     let _lock = only_writer(rt, store, faults)?;
     let _kept = keep_objects(rt, store)?;
     let Taken { connections, peers } = taken;
-    let shared = match Shared::open(alloc, files) {
+    let shared = match Shared::open(alloc, HomeFiles::new(alloc, home)?) {
         Ok(shared) => shared,
         Err((_files, fault)) => return Err(Failure::Node(fault)),
     };
@@ -98,9 +99,8 @@ where
         Ok(outcome) => outcome,
         Err(fault) => return Err(Failure::Node(fault)),
     };
-    let All { kept, ends } = all;
-    let mut files = kept.into_shared().close();
-    files.sync(alloc)?;
+    let All { kept: _, ends } = all;
+    home.settle()?;
     if serving.log {
         // If nobody reads the log, what comes after it is told all the same.
         let _ = log_ends(rt, &mut faults.stream, &peers, &ends, begun);

@@ -1,150 +1,92 @@
-// The files of a store whose folder must stay where it is.
+// The files of a store as the node of its server meets them.
 ghost use Rattle.std.specs.Prelude.{◌≡◌, ◌≤◌, IsErrOf};
 ghost use Rattle.vc_files.specs.Failures.{HasFailed, unstopped};
 
+use crate::brought::{BROUGHT, Brought, is_brought};
+use crate::store::GroupStore;
 use std::alloc::Global;
-use std::collections::BTreeMap;
 use std::fs::File;
 use std::marker::Model;
 use std::rt;
+use std::sync::Wait;
 use vc_files::{Fault, Files};
-use vc_folder::{FolderFiles, Syncs};
-use vc_serving::home::Home;
+use vc_folder::Syncs;
 
-// Whether this is what a push brought.
-fn is_brought(path: &str) -> bool {
-    path.starts_with("quarantine/")
-}
-
-// How many bytes of objects wait in memory before they are put into the folder.
-const MOST_WAITING: usize = 67_108_864;
-
-/// The store in a folder that must stay where it is.
+// The store, and what pushes bring before it is taken there.
 #[derive(Drop)]
-struct HomeStore<R: rt::Files<File = File> + Syncs<File> + AllocGlobal + Clone + Drop> {
-    rt: R,
-    folder: String,
-    home: Home,
-    // The objects that wait, by their paths, and how many bytes they have.
-    waiting: BTreeMap<String, Vec<u8>>,
-    bytes: usize,
+struct Parts<'a, R: rt::Files<File = File> + Syncs<File> + Wait + AllocGlobal + Clone + Drop> {
+    store: &'a GroupStore<R>,
+    brought: Brought,
+    // Whether the folder may have files that a push brought, too: those that found no room in memory.
+    has_more: bool,
 }
 
-impl<R> HomeStore<R>
+impl<'a, R> Parts<'a, R>
 where
-    R: rt::Files<File = File> + Syncs<File> + AllocGlobal + Clone + Drop,
+    R: rt::Files<File = File> + Syncs<File> + Wait + AllocGlobal + Clone + Drop,
 {
-    // The store in this folder, which is there.
-    fn new(rt: &R, folder: &str) -> Result<HomeStore<R>, Fault> {
-        let alloc = rt.alloc();
-        Ok(HomeStore {
-            rt: rt.clone()?,
-            folder: String::from_str(alloc, folder)?,
-            home: Home::open(rt, folder)?,
-            waiting: BTreeMap::new(alloc),
-            bytes: 0,
-        })
-    }
-
-    // The files of the folder as it is now.
-    fn open(&self) -> Result<FolderFiles<R>, Fault> {
-        let root = String::from_str(self.rt.alloc(), self.folder.as_str())?;
-        Ok(FolderFiles::new(self.rt.clone()?, root))
-    }
-
-    // A folder that was moved, or whose disk is gone, is not the one that is served.
-    fn look_home(&self) -> Result<(), Fault> {
-        if self.home.is_there(&self.rt)? {
-            Ok(())
-        } else {
-            Err(Fault::Device)
-        }
-    }
-
-    // Puts the objects that wait into the folder, and makes them durable.
-    fn sync(&mut self, alloc: Global) -> Result<(), Fault> {
-        if self.waiting.is_empty() {
-            return Ok(());
-        }
-        self.look_home()?;
-        let mut store = self.open()?;
-        for (path, bytes) in self.waiting.iter() {
-            store.put(alloc, path.as_str(), bytes.as_slice())?;
-        }
-        store.sync(alloc)?;
-        self.waiting = BTreeMap::new(alloc);
-        self.bytes = 0;
-        Ok(())
-    }
-
-    // An object waits.
-    fn wait(&mut self, alloc: Global, path: &str, bytes: &[u8]) -> Result<(), Fault> {
-        if self.bytes >= MOST_WAITING {
-            self.sync(alloc)?;
-        }
-        let copy = bytes.to_vec(alloc)?;
-        self.waiting.insert(String::from_str(alloc, path)?, copy)?;
-        self.bytes = self.bytes.saturating_add(bytes.len());
-        Ok(())
-    }
-
     fn get(&mut self, alloc: Global, path: &str) -> Result<Option<Vec<u8>>, Fault> {
-        if let Some(bytes) = self.waiting.get(path) {
-            return Ok(Some(bytes.as_slice().to_vec(alloc)?));
+        if is_brought(path) {
+            let found = self.brought.get(path)?;
+            if found.is_some() || !self.has_more {
+                return Ok(found);
+            }
         }
-        let found = self.open()?.get(alloc, path)?;
-        if found.is_none() {
-            self.look_home()?;
-        }
-        Ok(found)
+        self.store.get(alloc, path)
     }
 
     fn put(&mut self, alloc: Global, path: &str, bytes: &[u8]) -> Result<(), Fault> {
-        if path.starts_with("objects/") {
-            return self.wait(alloc, path, bytes);
+        if !is_brought(path) {
+            return self.store.put(alloc, path, bytes);
         }
-        self.look_home()?;
-        if is_brought(path) {
-            return self.open()?.put(alloc, path, bytes);
+        if self.brought.keep(path, bytes)? {
+            return Ok(());
         }
-        self.sync(alloc)?;
-        let mut store = self.open()?;
-        store.put(alloc, path, bytes)?;
-        store.sync(alloc)
+        self.has_more = true;
+        self.store.put_aside(alloc, path, bytes)
     }
 
     fn remove(&mut self, alloc: Global, path: &str) -> Result<(), Fault> {
-        self.look_home()?;
-        if is_brought(path) {
-            return self.open()?.remove(alloc, path);
+        if !is_brought(path) {
+            return self.store.remove(alloc, path);
         }
-        self.sync(alloc)?;
-        let mut store = self.open()?;
-        store.remove(alloc, path)?;
-        store.sync(alloc)
+        self.brought.remove(path);
+        if self.has_more {
+            self.store.remove_aside(alloc, path)?;
+        }
+        Ok(())
     }
 
     fn list(&mut self, alloc: Global, prefix: &str) -> Result<Vec<String>, Fault> {
-        self.look_home()?;
         if !is_brought(prefix) {
-            self.sync(alloc)?;
+            return self.store.list(alloc, prefix);
         }
-        self.open()?.list(alloc, prefix)
+        let mut names = Vec::new(alloc);
+        if self.has_more {
+            names = self.store.list_aside(alloc, prefix)?;
+        }
+        self.brought.list(prefix, &mut names)?;
+        names.sort()?;
+        Ok(names)
     }
 }
 
-/// The files of the store in a folder, of which nothing is claimed, as of [`FolderFiles`]. Threads may hand them on.
+/// The files of a [`GroupStore`], of which nothing is claimed, as of a folder's. One value at a time has them, and threads may hand it on.
 ///
-/// An object waits in memory until a file that is none is put or so many bytes wait; then all that wait are put into the folder and made
-/// durable together. Whatever else is put is durable when `put` returns, but for what a push brings, below `quarantine/`. If the folder
-/// went away, nothing is written where it stood, and nothing that is missing there is told as missing: both are a failure of the device.
+/// What is put may be on no disk yet when `put` returns: whoever tells of it waits first ([`GroupStore::settle`]). What a push brings,
+/// below `quarantine/`, is in memory, or in the folder if it is long; it is never made durable. If the folder went away, nothing is written
+/// where it stood, and nothing that is missing there is told as missing: both are a failure of the device.
 #[derive(Drop)]
-pub(crate) struct HomeFiles<R: rt::Files<File = File> + Syncs<File> + AllocGlobal + Clone + Drop> {
-    store: HomeStore<R>,
+pub(crate) struct HomeFiles<
+    'a,
+    R: rt::Files<File = File> + Syncs<File> + Wait + AllocGlobal + Clone + Drop,
+> {
+    parts: Parts<'a, R>,
     failed: u64,
 }
 
-impl<R: rt::Files<File = File> + Syncs<File> + AllocGlobal + Clone + Drop> Model for HomeFiles<R> {
+impl<'a, R: rt::Files<File = File> + Syncs<File> + Wait + AllocGlobal + Clone + Drop> Model
+    for HomeFiles<'a, R> {
     ghost use Rattle.std.specs.Prelude.{ℕ};
 
     ghost Value = { ℕ };
@@ -152,26 +94,21 @@ impl<R: rt::Files<File = File> + Syncs<File> + AllocGlobal + Clone + Drop> Model
     ghost view = { λ s. s.failed };
 }
 
-impl<R> HomeFiles<R>
+impl<'a, R> HomeFiles<'a, R>
 where
-    R: rt::Files<File = File> + Syncs<File> + AllocGlobal + Clone + Drop,
+    R: rt::Files<File = File> + Syncs<File> + Wait + AllocGlobal + Clone + Drop,
 {
-    /// The files of the store in this folder, which is there.
-    pub(crate) fn new(rt: &R, folder: &str) -> Result<HomeFiles<R>, Fault> {
-        Ok(HomeFiles {
-            store: HomeStore::new(rt, folder)?,
-            failed: 0,
-        })
-    }
-
-    /// A folder that was moved, or whose disk is gone, is a failure of the device.
-    pub(crate) fn look_home(&self) -> Result<(), Fault> {
-        self.store.look_home()
-    }
-
-    /// Makes all that was put durable.
-    pub(crate) fn sync(&mut self, alloc: Global) -> Result<(), Fault> {
-        self.store.sync(alloc)
+    /// The files of this store. What pushes brought to a server that was killed is removed.
+    pub(crate) fn new(alloc: Global, store: &'a GroupStore<R>) -> Result<HomeFiles<'a, R>, Fault> {
+        for path in store.list_aside(alloc, BROUGHT)? {
+            store.remove_aside(alloc, path.as_str())?;
+        }
+        let parts = Parts {
+            store,
+            brought: Brought::new(alloc),
+            has_more: false,
+        };
+        Ok(HomeFiles { parts, failed: 0 })
     }
 
     // Counts what a device failed to do.
@@ -190,9 +127,9 @@ where
     }
 }
 
-impl<R> Files for HomeFiles<R>
+impl<'a, R> Files for HomeFiles<'a, R>
 where
-    R: rt::Files<File = File> + Syncs<File> + AllocGlobal + Clone + Drop,
+    R: rt::Files<File = File> + Syncs<File> + Wait + AllocGlobal + Clone + Drop,
 {
     ghost use Rattle.std.specs.Prelude.{⊤};
     ghost use Rattle.std.specs.FinMap as files;
@@ -208,22 +145,22 @@ where
     ghost left = { unstopped };
 
     fn get(&mut self, alloc: Global, path: &str) -> Result<Option<Vec<u8>>, Fault> {
-        let done = self.store.get(alloc, path);
+        let done = self.parts.get(alloc, path);
         self.settle(done)
     }
 
     fn put(&mut self, alloc: Global, path: &str, bytes: &[u8]) -> Result<(), Fault> {
-        let done = self.store.put(alloc, path, bytes);
+        let done = self.parts.put(alloc, path, bytes);
         self.settle(done)
     }
 
     fn remove(&mut self, alloc: Global, path: &str) -> Result<(), Fault> {
-        let done = self.store.remove(alloc, path);
+        let done = self.parts.remove(alloc, path);
         self.settle(done)
     }
 
     fn list(&mut self, alloc: Global, prefix: &str) -> Result<Vec<String>, Fault> {
-        let done = self.store.list(alloc, prefix);
+        let done = self.parts.list(alloc, prefix);
         self.settle(done)
     }
 

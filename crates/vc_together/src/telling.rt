@@ -20,8 +20,8 @@ pub(crate) fn log_ends<C: Clock + AllocGlobal, W: Write, S: Drop>(
     Ok(())
 }
 
-// What went over a connection, by its receipts and how it ended.
-fn talk_of<S: Drop>(end: &End<S>) -> Talk {
+/// What went over a connection, by its receipts and how it ended.
+pub(crate) fn talk_of<S: Drop>(end: &End<S>) -> Talk {
     let mut talk = Talk::new();
     for receipt in end.receipts.iter() {
         if let Some(entry) = &receipt.entry {
