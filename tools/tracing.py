@@ -1,6 +1,7 @@
 """Follows a process from one system call to the next, by ptrace, on x86-64 Linux: what kills it before a call, or has the call fail.
 
-A `Hindrance` counts the calls of a process and hinders one of them; `follow` asks it, or any other function, at each call.
+A `Hindrance` counts the calls of a process and hinders one of them; `follow` asks it, or any other function, at each call. It follows
+the first thread of a process alone; `follow_threads` follows each, and tells also what a call returned.
 """
 import ctypes
 import errno
@@ -10,6 +11,7 @@ import signal
 import subprocess
 import sys
 import threading
+import time
 
 # Calls that change what is stored or sent, or who may write, by their numbers. `openat` counts where it may make a file.
 CHANGING = {
@@ -58,8 +60,10 @@ class SystemCall(ctypes.Structure):
 LIBC = ctypes.CDLL(None, use_errno=True)
 LIBC.ptrace.argtypes = [ctypes.c_long, ctypes.c_long, ctypes.c_void_p, ctypes.c_void_p]
 TRACE_ME, POKE, RUN_TO_CALL, SET_OPTIONS, TELL_CALL = 0, 6, 24, 0x4200, 0x420E
-MARK_CALLS, KILL_WITH_TRACER = 1, 1 << 20
-AT_ENTRY = 1
+MARK_CALLS, FOLLOW_THREADS, KILL_WITH_TRACER = 1, 1 << 3, 1 << 20
+AT_ENTRY, AT_END = 1, 2
+ANY_THREAD = 0x40000000  # of waitpid: threads too
+BLINK = 0.001  # seconds between two looks while a call is held up
 NUMBER_PLACE, RESULT_PLACE = 120, 80  # of the call's number and of its result, among the registers
 KILL = -1
 
@@ -158,6 +162,89 @@ def follow_to_end(pid, at_call):
         if failing:
             # No call has this number, so nothing is done.
             ptrace(POKE, pid, NUMBER_PLACE, -1)
+
+
+class Slow:
+    """What becomes of a call that begins so many seconds later than it would. The other threads go on."""
+
+    def __init__(self, seconds):
+        self.seconds = seconds
+
+
+def follow_threads(process, at_call, at_end):
+    """Follows all threads of a process that has just begun, in a session of its own. Asks at the beginning of each call of each thread
+    what is to become of it: the number of the error by which it is to fail, `Slow`, or none; and tells at its end what it returned.
+    Sets and gives the status of the process; one that doesn't end is killed."""
+    timer = threading.Timer(PATIENCE, process.kill)
+    timer.start()
+    process.returncode = Followed(process.pid, at_call, at_end).to_end()
+    timer.cancel()
+    return process.returncode
+
+
+class Followed:
+    """The threads of a process, each of which runs, or stands at a call that is held up."""
+
+    def __init__(self, pid, at_call, at_end):
+        self.pid, self.at_call, self.at_end = pid, at_call, at_end
+        self.failing, self.held = {}, {}
+
+    def to_end(self):
+        os.waitpid(self.pid, 0)
+        ptrace(SET_OPTIONS, self.pid, None, MARK_CALLS | FOLLOW_THREADS | KILL_WITH_TRACER)
+        self.go_on(self.pid)
+        while True:
+            thread, state = os.waitpid(-self.pid, ANY_THREAD | (os.WNOHANG if self.held else 0))
+            if thread == 0:
+                time.sleep(BLINK)
+            elif not os.WIFSTOPPED(state):
+                if thread == self.pid:
+                    return os.waitstatus_to_exitcode(state)
+            else:
+                self.stopped(thread, state)
+            for it in [it for it, until in self.held.items() if until <= time.monotonic()]:
+                del self.held[it]
+                self.go_on(it)
+
+    def go_on(self, thread, sent=0):
+        try:
+            ptrace(RUN_TO_CALL, thread, None, sent)
+        except ProcessLookupError:
+            pass  # the process was killed while it stood still
+
+    def stopped(self, thread, state):
+        """A thread stands at the beginning or the end of a call, is to get a signal, or is new."""
+        sent = os.WSTOPSIG(state)
+        if sent != signal.SIGTRAP | 0x80:
+            self.go_on(thread, 0 if sent in (signal.SIGTRAP, signal.SIGSTOP) else sent)
+            return
+        try:
+            becomes = self.told(thread)
+        except ProcessLookupError:
+            becomes = None
+        if isinstance(becomes, Slow):
+            self.held[thread] = time.monotonic() + becomes.seconds
+        else:
+            self.go_on(thread)
+
+    def told(self, thread):
+        """Tells of a call, and has it fail if it is to."""
+        call = SystemCall()
+        ptrace(TELL_CALL, thread, ctypes.sizeof(call), ctypes.addressof(call))
+        if call.stage == AT_END:
+            failed = self.failing.pop(thread, 0)
+            if failed:
+                ptrace(POKE, thread, RESULT_PLACE, -failed)
+            self.at_end(thread, -failed if failed else ctypes.c_int64(call.number).value)
+            return None
+        if call.stage != AT_ENTRY:
+            return None
+        becomes = self.at_call(thread, call)
+        if isinstance(becomes, int) and becomes:
+            # No call has this number, so nothing is done.
+            ptrace(POKE, thread, NUMBER_PLACE, -1)
+            self.failing[thread] = becomes
+        return becomes
 
 
 def may_trace():
