@@ -6,7 +6,6 @@ ghost use Rattle.vc_remote.specs.declared.remote_fault.RemoteFault.TheVariants.{
 
 use std::alloc::AllocError;
 use vc_files::Fault;
-use vc_local::NodeFault;
 use vc_message::IncomingFault;
 use vc_node::CloneFault;
 use vc_pkt::PktFault;
@@ -42,12 +41,6 @@ impl From<AllocError> for RemoteFault {
 
     fn from(_: AllocError) -> Self {
         RemoteFault::Fault(Fault::Memory)
-    }
-}
-
-impl From<NodeFault> for RemoteFault {
-    fn from(fault: NodeFault) -> Self {
-        RemoteFault::Clone(CloneFault::Node(fault))
     }
 }
 
