@@ -67,6 +67,7 @@ where
         }
         self.brought.list(prefix, &mut names)?;
         names.sort()?;
+        names.dedup();
         Ok(names)
     }
 }

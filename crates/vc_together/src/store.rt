@@ -61,7 +61,7 @@ where
     pub(crate) fn settle(&self) -> Result<(), Fault> {
         let made = self.writes.lock(&self.rt).made();
         for _ in self.rt.forever() {
-            let turn = self.writes.lock(&self.rt).turn(made)?;
+            let turn = self.writes.lock(&self.rt).turn(made);
             match turn {
                 Turn::Done => return Ok(()),
                 Turn::Lost(fault) => return Err(fault),

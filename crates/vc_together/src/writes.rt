@@ -1,6 +1,6 @@
 // What was written to a store, and how much of it is durable.
 use crate::batch::Batch;
-use std::alloc::{AllocError, Global};
+use std::alloc::Global;
 use std::mem;
 use std::sync::Arc;
 use vc_files::Fault;
@@ -108,26 +108,34 @@ impl Writes {
     }
 
     /// What a thread does that waits until so many writes are durable.
-    pub(crate) fn turn(&mut self, made: u64) -> Result<Turn, AllocError> {
+    pub(crate) fn turn(&mut self, made: u64) -> Turn {
         if let Some(fault) = self.lost {
-            return Ok(Turn::Lost(fault));
+            return Turn::Lost(fault);
         }
         if made <= self.durable {
-            return Ok(Turn::Done);
+            return Turn::Done;
         }
         if self.going.is_some() {
-            return Ok(Turn::Waits);
+            return Turn::Waits;
         }
-        let batch = mem::replace(&mut self.waiting, Batch::new(self.alloc));
-        let batch = match Arc::new(self.alloc, batch) {
-            Ok(batch) => batch,
-            Err(_) => {
-                self.lost = Some(Fault::Memory);
-                return Ok(Turn::Lost(Fault::Memory));
+        match self.begin() {
+            Ok(batch) => Turn::Puts(batch, self.made),
+            Err(fault) => {
+                // What waited is gone.
+                self.lost = Some(fault);
+                Turn::Lost(fault)
             }
+        }
+    }
+
+    // What waits is on its way into the folder from now on.
+    fn begin(&mut self) -> Result<Arc<Batch>, Fault> {
+        let batch = mem::replace(&mut self.waiting, Batch::new(self.alloc));
+        let Ok(batch) = Arc::new(self.alloc, batch) else {
+            return Err(Fault::Memory);
         };
         self.going = Some(batch.clone()?);
-        Ok(Turn::Puts(batch, self.made))
+        Ok(batch)
     }
 
     /// Whether another thread puts writes into the folder, and so many aren't durable yet.
