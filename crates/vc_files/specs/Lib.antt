@@ -4,3 +4,4 @@ pub mod FileMap
 pub mod Fused
 pub mod Memory
 pub mod Path
+pub mod Printed

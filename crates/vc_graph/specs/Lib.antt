@@ -1,3 +1,4 @@
 pub mod GraphFault
 pub mod Incomplete
 pub mod Walking
+pub mod Printed

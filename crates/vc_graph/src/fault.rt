@@ -1,5 +1,6 @@
 //! The refusals of this crate.
-ghost use Rattle.std.specs.Prelude.{◌≡◌};
+ghost use Rattle.std.specs.Prelude.{◌≡◌, Some};
+ghost use Rattle.vc_graph.specs.Printed.{graph_fault_text};
 
 use std::alloc::AllocError;
 use std::error::Error;
@@ -18,6 +19,8 @@ pub enum GraphFault {
 }
 
 impl fmt::Display for GraphFault {
+    ghost output = { λ fault. Some (graph_fault_text fault) };
+
     fn fmt<W: fmt::Write>(&self, f: &mut fmt::Formatter<W>) -> fmt::Result {
         match self {
             GraphFault::Missing(_) => f.write_str(MISSING),

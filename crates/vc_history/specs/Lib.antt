@@ -6,3 +6,4 @@ pub mod Stored
 pub mod Toward
 pub mod Walk
 pub mod Whole
+pub mod Printed

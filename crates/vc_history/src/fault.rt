@@ -1,5 +1,6 @@
 //! The refusals of this crate.
-ghost use Rattle.std.specs.Prelude.{◌≡◌};
+ghost use Rattle.std.specs.Prelude.{◌≡◌, Some};
+ghost use Rattle.vc_history.specs.Printed.{history_fault_text};
 ghost use Rattle.vc_history.specs.declared.fault.HistoryFault.TheVariants.{Store};
 ghost use Rattle.vc_files.specs.declared.faults.Fault.TheVariants.{Memory};
 ghost use Rattle.vc_object_map.specs.declared.faults.StoreFault.TheVariants.{Fault};
@@ -26,6 +27,8 @@ pub enum HistoryFault {
 }
 
 impl fmt::Display for HistoryFault {
+    ghost output = { λ fault. Some (history_fault_text fault) };
+
     fn fmt<W: fmt::Write>(&self, f: &mut fmt::Formatter<W>) -> fmt::Result {
         match self {
             HistoryFault::Missing(_) => f.write_str(MISSING),

@@ -1,5 +1,5 @@
 // Why a call of a node gives no answer.
-ghost use Rattle.std.specs.Prelude.{◌≡◌};
+ghost use Rattle.std.specs.Prelude.{◌≡◌, Some};
 ghost use Rattle.vc_files.specs.declared.faults.Fault.TheVariants.{Memory};
 ghost use Rattle.vc_object_map.specs.declared.faults.StoreFault.TheVariants as store_fault;
 ghost use Rattle.vc_local.specs.declared.fault.NodeFault.TheVariants.{Store, Ref};
@@ -44,7 +44,7 @@ pub enum NodeFault {
 }
 
 impl fmt::Display for NodeFault {
-    ghost output = { node_fault_text };
+    ghost output = { λ fault. Some (node_fault_text fault) };
 
     fn fmt<W: fmt::Write>(&self, f: &mut fmt::Formatter<W>) -> fmt::Result {
         match self {

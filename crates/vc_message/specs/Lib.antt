@@ -10,3 +10,4 @@ pub mod Streaming
 pub mod Bounded
 pub mod Read
 pub mod Told
+pub mod Printed

@@ -1,6 +1,7 @@
 //! Why no message came from a reader.
 
-ghost use Rattle.std.specs.Prelude.{◌≡◌};
+ghost use Rattle.std.specs.Prelude.{◌≡◌, Some};
+ghost use Rattle.vc_message.specs.Printed.{incoming_fault_text};
 ghost use Rattle.vc_message.specs.declared.incoming_fault.IncomingFault.TheVariants.{Failed, Memory, Unread};
 ghost use Rattle.vc_message.specs.IncomingFault.{of_pkt};
 
@@ -22,6 +23,8 @@ pub enum IncomingFault {
 }
 
 impl fmt::Display for IncomingFault {
+    ghost output = { λ fault. Some (incoming_fault_text fault) };
+
     fn fmt<W: fmt::Write>(&self, f: &mut fmt::Formatter<W>) -> fmt::Result {
         match self {
             IncomingFault::Memory => f.write_str("memory"),

@@ -22,3 +22,4 @@ pub mod Start
 pub mod Tag
 pub mod Tree
 pub mod TreeFault
+pub mod Printed

@@ -1,4 +1,6 @@
 //! Why bytes are no object.
+ghost use Rattle.std.specs.Prelude.{◌≡◌, Some};
+ghost use Rattle.vc_object.specs.Printed.{object_fault_text};
 
 use std::error::Error;
 use std::fmt;
@@ -31,7 +33,9 @@ pub enum ObjectFault {
 
 impl ObjectFault {
     // The number and the name, as they are printed.
-    fn text(self) -> &'static str {
+    fn number_and_name(self) -> &'static str
+        ensures { result.now ≡ object_fault_text self }
+    {
         match self {
             ObjectFault::BadHeader => "1 BadHeader",
             ObjectFault::BadSize => "2 BadSize",
@@ -48,8 +52,10 @@ impl ObjectFault {
 }
 
 impl fmt::Display for ObjectFault {
+    ghost output = { λ fault. Some (object_fault_text fault) };
+
     fn fmt<W: fmt::Write>(&self, f: &mut fmt::Formatter<W>) -> fmt::Result {
-        f.write_str(self.text())
+        f.write_str(self.number_and_name())
     }
 }
 

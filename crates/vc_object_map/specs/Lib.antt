@@ -7,3 +7,4 @@ pub mod Present
 pub mod Removal
 pub mod Store
 pub mod StoreFault
+pub mod Printed

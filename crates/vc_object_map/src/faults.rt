@@ -1,5 +1,6 @@
 // What a store answers where it can't answer what is asked.
-ghost use Rattle.std.specs.Prelude.{◌≡◌};
+ghost use Rattle.std.specs.Prelude.{◌≡◌, Some};
+ghost use Rattle.vc_object_map.specs.Printed.{store_fault_text};
 ghost use Rattle.vc_files.specs.declared.faults.Fault.TheVariants.{Memory};
 ghost use Rattle.vc_object_map.specs.declared.faults.StoreFault.TheVariants.{BadObject, Fault};
 
@@ -26,6 +27,8 @@ pub enum StoreFault {
 }
 
 impl fmt::Display for StoreFault {
+    ghost output = { λ fault. Some (store_fault_text fault) };
+
     fn fmt<W: fmt::Write>(&self, f: &mut fmt::Formatter<W>) -> fmt::Result {
         match self {
             StoreFault::BadObject(fault) => fmt::Display::fmt(fault, f),

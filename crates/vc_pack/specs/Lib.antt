@@ -4,3 +4,4 @@ pub mod Brought
 pub mod Picked
 pub mod Reached
 pub mod Sent
+pub mod Printed

@@ -1,5 +1,6 @@
 //! The refusals of this crate.
-ghost use Rattle.std.specs.Prelude.{◌≡◌};
+ghost use Rattle.std.specs.Prelude.{◌≡◌, Some};
+ghost use Rattle.vc_pack.specs.Printed.{answer_fault_text};
 ghost use Rattle.vc_pack.specs.AnswerFault.{from_store, from_graph, from_refs};
 ghost use Rattle.vc_pack.specs.declared.fault.AnswerFault.TheVariants.{Fault};
 ghost use Rattle.vc_files.specs.declared.faults.Fault.TheVariants.{Memory};
@@ -29,6 +30,8 @@ pub enum AnswerFault {
 }
 
 impl fmt::Display for AnswerFault {
+    ghost output = { λ fault. Some (answer_fault_text fault) };
+
     fn fmt<W: fmt::Write>(&self, f: &mut fmt::Formatter<W>) -> fmt::Result {
         match self {
             AnswerFault::NotOurs(_) => f.write_str("90 NotOurs"),

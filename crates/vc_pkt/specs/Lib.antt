@@ -18,3 +18,4 @@ pub mod Incoming
 pub mod ObjectStreamView
 pub mod StreamFaults
 pub mod Written
+pub mod Printed

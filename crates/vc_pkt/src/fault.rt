@@ -1,4 +1,6 @@
 //! Why bytes are refused, by the numbers that a program prints.
+ghost use Rattle.std.specs.Prelude.{Some};
+ghost use Rattle.vc_pkt.specs.Printed.{pkt_fault_text};
 
 use std::alloc::{AllocError, AllocFailed};
 use std::error::Error;
@@ -32,6 +34,8 @@ pub enum PktFault {
 }
 
 impl fmt::Display for PktFault {
+    ghost output = { λ fault. Some (pkt_fault_text fault) };
+
     fn fmt<W: fmt::Write>(&self, f: &mut fmt::Formatter<W>) -> fmt::Result {
         match self {
             PktFault::BadLength(place) => write!(f, "{BAD_LENGTH}({place})"),

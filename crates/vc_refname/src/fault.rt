@@ -1,4 +1,6 @@
 //! The rules that a text may break, by their numbers.
+ghost use Rattle.std.specs.Prelude.{◌≡◌, Some};
+ghost use Rattle.vc_refname.specs.Printed.{name_fault_text};
 
 use std::error::Error;
 use std::fmt;
@@ -37,7 +39,9 @@ pub enum NameFault {
 
 impl NameFault {
     // The number and the name, as they are printed.
-    fn text(self) -> &'static str {
+    fn number_and_name(self) -> &'static str
+        ensures { result.now ≡ name_fault_text self }
+    {
         match self {
             NameFault::SingleAt => "20 SingleAt",
             NameFault::NoSlash => "21 NoSlash",
@@ -55,8 +59,10 @@ impl NameFault {
 }
 
 impl fmt::Display for NameFault {
+    ghost output = { λ fault. Some (name_fault_text fault) };
+
     fn fmt<W: fmt::Write>(&self, f: &mut fmt::Formatter<W>) -> fmt::Result {
-        f.write_str(self.text())
+        f.write_str(self.number_and_name())
     }
 }
 

@@ -11,3 +11,4 @@ pub mod RefFault
 pub mod Packing
 pub mod RefCalls
 pub mod SetAll
+pub mod Printed

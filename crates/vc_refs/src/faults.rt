@@ -1,5 +1,6 @@
 // Why a call on refs gives no answer.
-ghost use Rattle.std.specs.Prelude.{◌≡◌};
+ghost use Rattle.std.specs.Prelude.{◌≡◌, Some};
+ghost use Rattle.vc_refs.specs.Printed.{ref_fault_text};
 ghost use Rattle.vc_files.specs.declared.faults.Fault.TheVariants.{Memory};
 ghost use Rattle.vc_refs.specs.declared.faults.RefFault.TheVariants.{Fault};
 
@@ -27,6 +28,8 @@ pub enum RefFault {
 }
 
 impl fmt::Display for RefFault {
+    ghost output = { λ fault. Some (ref_fault_text fault) };
+
     fn fmt<W: fmt::Write>(&self, f: &mut fmt::Formatter<W>) -> fmt::Result {
         match self {
             RefFault::Stale(_) => f.write_str("31 Stale"),

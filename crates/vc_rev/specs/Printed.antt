@@ -1,5 +1,6 @@
 -- What a refusal is printed as: its number and its name.
-use Rattle.std.specs.Prelude.{ℕ, List, Option, Some, None, codes}
+use Rattle.std.specs.Prelude.{ℕ, List, codes}
+use Rattle.vc_object_map.specs.Printed.{store_fault_text}
 use Rattle.vc_rev.specs.declared.refusal.Refusal.{Refusal}
 use Rattle.vc_rev.specs.declared.refusal.Refusal.TheVariants.{Unknown, Ambiguous, TooShort, NoSuchParent, WrongKind, NoSuchPath}
 use Rattle.vc_rev.specs.declared.refusal.RevFault.{RevFault}
@@ -15,15 +16,14 @@ refusal_text NoSuchParent = codes "54 NoSuchParent"
 refusal_text WrongKind = codes "55 WrongKind"
 refusal_text NoSuchPath = codes "56 NoSuchPath"
 
--- a fault of the store is printed as the store prints it, of which nothing is claimed here
-abbrev pub source_text : SourceFault → Option (List ℕ)
-source_text (Store fault) = None
-source_text (BadRefFile path) = Some (codes "33 BadRefFile")
-source_text HeadLoop = Some (codes "34 HeadLoop")
-source_text (BadIndex place) = Some (codes "62 BadIndex")
+abbrev pub source_text : SourceFault → List ℕ
+source_text (Store fault) = store_fault_text fault
+source_text (BadRefFile path) = codes "33 BadRefFile"
+source_text HeadLoop = codes "34 HeadLoop"
+source_text (BadIndex place) = codes "62 BadIndex"
 
-abbrev pub rev_fault_text : RevFault → Option (List ℕ)
-rev_fault_text (Refused refusal) = Some (refusal_text refusal)
-rev_fault_text (Missing id) = Some (codes "40 Missing")
-rev_fault_text (NotACommit id) = Some (codes "41 NotACommit")
+abbrev pub rev_fault_text : RevFault → List ℕ
+rev_fault_text (Refused refusal) = refusal_text refusal
+rev_fault_text (Missing id) = codes "40 Missing"
+rev_fault_text (NotACommit id) = codes "41 NotACommit"
 rev_fault_text (Source fault) = source_text fault

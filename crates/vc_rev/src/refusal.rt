@@ -73,7 +73,7 @@ pub enum SourceFault {
 }
 
 impl fmt::Display for SourceFault {
-    ghost output = { source_text };
+    ghost output = { λ fault. Some (source_text fault) };
 
     fn fmt<W: fmt::Write>(&self, f: &mut fmt::Formatter<W>) -> fmt::Result {
         match self {
@@ -101,7 +101,7 @@ pub enum RevFault {
 }
 
 impl fmt::Display for RevFault {
-    ghost output = { rev_fault_text };
+    ghost output = { λ fault. Some (rev_fault_text fault) };
 
     fn fmt<W: fmt::Write>(&self, f: &mut fmt::Formatter<W>) -> fmt::Result {
         match self {

@@ -1,5 +1,5 @@
 //! Why a script is not played to its end.
-ghost use Rattle.std.specs.Prelude.{◌≡◌};
+ghost use Rattle.std.specs.Prelude.{◌≡◌, Some};
 ghost use Rattle.vc_files.specs.declared.faults.Fault.TheVariants.{Memory};
 ghost use Rattle.vc_script.specs.ScriptFault.{script_fault_text};
 ghost use Rattle.vc_script.specs.declared.fault.ScriptFault.TheVariants.{Fault as Failed};
@@ -19,7 +19,7 @@ pub enum ScriptFault {
 }
 
 impl fmt::Display for ScriptFault {
-    ghost output = { script_fault_text };
+    ghost output = { λ fault. Some (script_fault_text fault) };
 
     fn fmt<W: fmt::Write>(&self, f: &mut fmt::Formatter<W>) -> fmt::Result {
         match self {
