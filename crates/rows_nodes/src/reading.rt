@@ -51,6 +51,8 @@ impl<'a> Peer for Reading<'a> {
 
     ghost loses = { ⊤ };
 
+    ghost says = { λ _ _ _ _. ⊤ };
+
     fn ask(&mut self, bytes: &[u8]) -> Result<Reply<Fallible<Cursor<Vec<u8>>>>, SharedFault> {
         let answered = answer(self.shared, bytes)?;
         if let Coming::Unread = self.coming {

@@ -3,11 +3,12 @@ use Rattle.std.proofs.Common.{◌≡◌, ℕ, true, Bool, List, Option, Some, No
 use Rattle.std.specs.Global.{Global}
 use Rattle.std.specs.Prelude.{IfErr, IfNone, IfOk, Result, Vec}
 use Rattle.vc_files.specs.FileMap.{FileMap}
+use Rattle.vc_life.specs.Life.{opened_shared}
 use Rattle.vc_model.specs.Repository.{Repository}
 use Rattle.vc_model.specs.SharedCall.{SharedCall}
 use Rattle.vc_local.specs.Clean.{KeepsClean}
 use Rattle.vc_local.specs.Opening.{IsOpenable}
-use Rattle.vc_serving.specs.Answering.{AnswersCame, IsRefusedOnce, KeepsOpenable, ServesCame, ServesOnce, ServesOnceAs, opened_shared}
+use Rattle.vc_serving.specs.Answering.{AnswersCame, IsRefusedOnce, KeepsOpenable, ServesCame, ServesOnce, ServesOnceAs}
 use Rattle.vc_push_rules.specs.Session.{SessionText}
 use Rattle.vc_server.specs.Coming.{IsRefusedThere, Reply, ServesAs, ServesFrom}
 use Rattle.vc_server.specs.Serving.{Serves}

@@ -1,2 +1,5 @@
 pub mod AnsweringLemmas
 pub mod TurnLemmas
+pub mod LifeLemmas
+pub mod InTurnLemmas
+pub mod SafeLemmas

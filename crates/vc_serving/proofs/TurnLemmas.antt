@@ -5,13 +5,14 @@ use Rattle.vc_message.specs.Coming.{Came, IsCome, a_message, cut_short, lost, no
 use Rattle.vc_message.specs.Machine.{Reads}
 use Rattle.vc_message.proofs.ComingLaws.{none_wrong, some_taken, text_taken}
 use Rattle.vc_model.specs.Message.{Message}
+use Rattle.vc_life.specs.Life.{opened_shared}
 use Rattle.vc_model.specs.Repository.{Repository}
 use Rattle.vc_model.specs.SharedCall.{SharedCall}
 use Rattle.vc_model.specs.SharedCall.SharedCall.{Accept}
 use Rattle.vc_server.specs.Coming.{Reply}
 use Rattle.vc_shared.specs.Arriving.{IsCallOf, IsTold}
 use Rattle.vc_shared.specs.declared.accept_fault.AcceptFault.TheVariants.{Node, ReadFailed}
-use Rattle.vc_serving.specs.Answering.{AnswersCame, AnswersRead, ServesOnceAs, opened_shared}
+use Rattle.vc_serving.specs.Answering.{AnswersCame, AnswersRead, ServesOnceAs}
 use Rattle.vc_serving.specs.OneTurn.{ServesTurn}
 use Rattle.vc_serving.proofs.AnsweringLemmas.{came_once, kept_openable, refused_once}
 use Rattle.vc_local.proofs.CleanLemmas.{stays_then}

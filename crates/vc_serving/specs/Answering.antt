@@ -1,8 +1,8 @@
 -- One message at the shared node that files hold: the node is opened, serves the message to its end, and is closed.
-use Rattle.std.specs.FinMap.{empty}
 use Rattle.std.specs.Global.{Global}
 use Rattle.std.specs.Prelude.{◌⊎◌, ⊤, ℕ, List, Option, Some, None, Result, Ok, Err, Vec, true}
 use Rattle.vc_files.specs.FileMap.{FileMap}
+use Rattle.vc_life.specs.Life.{opened_shared}
 use Rattle.vc_message.specs.Coming.{Came, IsCome}
 use Rattle.vc_model.specs.Message.{Message}
 use Rattle.vc_model.specs.Node.{Answer}
@@ -21,10 +21,6 @@ use Rattle.vc_shared.specs.Slots.{free_slots}
 use Rattle.vc_shared.specs.declared.accept_fault.AcceptFault.TheVariants.{Node as OfNode, ReadFailed}
 use Rattle.vc_shared.specs.declared.fault.SharedFault.{SharedFault}
 use Rattle.vc_shared.specs.declared.fault.SharedFault.TheVariants.{Node}
-
--- a shared node that has just been opened: it is up, and no push is open
-abbrev pub opened_shared : Repository → SharedNode
-opened_shared r = record { repository = r; live = Some empty }
 
 -- the files hold it
 abbrev pub HoldsOpened : FileMap → Repository → Type 0

@@ -5,8 +5,13 @@
 #![tactic(auto)]
 
 mod answering;
+mod at_port;
+mod clients;
 mod command;
+mod connection;
 pub mod home;
+mod in_turn;
+mod laws;
 mod own_folder;
 mod served_files;
 mod serving;
@@ -15,6 +20,9 @@ pub mod talk;
 mod turn;
 
 pub use answering::make_shared;
+pub use clients::Clients;
 pub use command::{listen, make_ready, open_port, serve};
+pub use in_turn::serve_in_turn;
+pub use laws::{a_served_store_is_safe, each_exchange_is_safe};
 pub use serving::{MEBIBYTE, pass_over};
 pub use turn::serve_once;

@@ -10,3 +10,7 @@ pub mod Serves
 pub mod PushCalls
 pub mod ReportLemmas
 pub mod WearLemmas
+pub mod AloneCalls
+pub mod AloneRounds
+pub mod AlonePushes
+pub mod OverFilesLemmas

@@ -160,7 +160,7 @@ module _ {P R F A : Type 0} (holds : P → SharedNode → Type 0) (told : R → 
       }
 
   -- what ends a round here sends nothing, and is told so
-  ends_so : (received : Result Received CloneFault) (result : Result Fetched (ExchangeEnd R)) → next_of received ≡ End result → (a : Answer) (sends : Option Message) → ReceivedAs received a sends
+  pub ends_so : (received : Result Received CloneFault) (result : Result Fetched (ExchangeEnd R)) → next_of received ≡ End result → (a : Answer) (sends : Option Message) → ReceivedAs received a sends
       → (sends ≡ None) × RoundAs told result a
   ends_so (Ok (Send bytes)) result e a sends shown = absurd (cc)
   ends_so (Ok (Moved moved left)) result e a sends shown = (shown.sent, subst (λ r. RoundAs told r a) (end_same (Ok (record { moved = moved; left = left })) result e) shown.answer)
@@ -184,7 +184,7 @@ module _ {P R F A : Type 0} (holds : P → SharedNode → Type 0) (told : R → 
   }
 
   -- what asks for a pack sends a want
-  asks_so : (received : Result Received CloneFault) (want : Vec ℕ Global) → next_of {R = R} received ≡ Ask want → received ≡ Ok (Send want)
+  pub asks_so : (received : Result Received CloneFault) (want : Vec ℕ Global) → next_of {R = R} received ≡ Ask want → received ≡ Ok (Send want)
   asks_so (Ok (Send bytes)) want e = ap (λ b. Ok (Send b)) (ask_same bytes want e)
   asks_so (Ok (Moved moved left)) want e = absurd (cc)
   asks_so (Ok (Reported moved reasons)) want e = absurd (cc)

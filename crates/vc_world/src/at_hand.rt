@@ -1,5 +1,5 @@
 // A shared node at hand.
-ghost use Rattle.std.specs.Prelude.{◌≢◌, ◌⊎◌, None};
+ghost use Rattle.std.specs.Prelude.{◌≢◌, ◌⊎◌, ⊤, None};
 ghost use Rattle.vc_shared.specs.Faults.{IsOfDevice, fault_answer};
 ghost use Rattle.vc_shared.specs.Holding.{HoldsShared};
 
@@ -27,6 +27,8 @@ impl<F: Files> Peer for Shared<F> {
     ghost is_device = { IsOfDevice };
 
     ghost loses = { ⊥ };
+
+    ghost says = { λ _ _ _ _. ⊤ };
 
     fn ask(&mut self, bytes: &[u8]) -> Result<Reply<&'static [u8]>, SharedFault> {
         match vc_server::answer(self, bytes) {

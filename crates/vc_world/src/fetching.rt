@@ -2,6 +2,7 @@
 ghost use Rattle.std.specs.Prelude.{◌≡◌, ◌≢◌, ◌⊎◌, None, false, true};
 ghost use Rattle.vc_files.specs.Failures.{Wears, unstopped};
 ghost use Rattle.vc_message.specs.Machine.{Reads};
+ghost use Rattle.vc_message.specs.Told.{SendsBytes};
 ghost use Rattle.vc_model.specs.CloneCall.CloneCall.{Receive};
 ghost use Rattle.vc_model.specs.Exchange.{IsFewer};
 ghost use Rattle.vc_model.specs.Message.{Message as Sent};
@@ -9,6 +10,8 @@ ghost use Rattle.vc_node.specs.CloneCalls.{ReceivedAs};
 ghost use Rattle.vc_node.specs.CloneFaults.{TellsDevice};
 ghost use Rattle.vc_node.specs.Node.{AnswersCall};
 ghost use Rattle.vc_node.specs.Stored.{KeepsOwn};
+ghost use Rattle.vc_trail.specs.Trail.{Turn};
+ghost use Rattle.vc_world.specs.Alone.{FetchAlone, LeadsAlone, RestAlone, RoundAlone, TakesFirst, TakesReply, WasSpelled};
 ghost use Rattle.vc_world.specs.Devices.{BringsNone, IsLost, Lost, TellsClone, TellsPeer, WritesOrLoses};
 ghost use Rattle.vc_world.specs.Fetching.{next_of, settled};
 ghost use Rattle.vc_world.specs.Exchanging.{Begins, Brings, CatchesUp, HoldsClone, IsFetch, IsRest, IsRound, Leads};
@@ -44,6 +47,7 @@ fn receive_from<F: Files, A: Source>(
     reader: &mut A,
 ) -> Result<Received, CloneFault>
     ensures answers { F.honest → (m : Sent) → Begins (A.remaining reader.old) m → AnswersCall F.content (Receive m) (ReceivedAs result) clone.old clone.new }
+    ensures alone { F.honest → TakesFirst F.content (A.remaining reader.old) result clone.old clone.new }
     ensures kept { F.honest → KeepsOwn (F.content clone.old.files) (F.content clone.new.files) }
     ensures wear { WritesOrLoses (BringsNone A.remaining A.failed A.can_fail reader.old reader.new) F.honest F.content F.failed F.can_fail F.left clone.old.files clone.new.files (TellsDevice result) }
 {
@@ -64,6 +68,7 @@ fn receive<F: Files, A: Source + Drop>(
     reply: Reply<A>,
 ) -> Result<Received, CloneFault>
     ensures answers { F.honest → (m : Sent) → Brings A.remaining reply m → AnswersCall F.content (Receive m) (ReceivedAs result) clone.old clone.new }
+    ensures alone { F.honest → WasSpelled reply → TakesReply F.content A.remaining reply result clone.old clone.new }
     ensures kept { F.honest → KeepsOwn (F.content clone.old.files) (F.content clone.new.files) }
     ensures wear { WritesOrLoses (IsLost A.remaining A.failed A.can_fail reply) F.honest F.content F.failed F.can_fail F.left clone.old.files clone.new.files (TellsDevice result) }
 {
@@ -105,6 +110,7 @@ fn fetch_pack<P: Peer, F: Files>(
     want: &[u8],
 ) -> Result<Fetched, ExchangeEnd<P::Refusal>>
     ensures rest { P.honest → F.honest → (m : Sent) → Reads want.now m → Leads P.holds (HoldsClone F.content) shared.old shared.new clone.old clone.new (IsRest P.told m result) }
+    ensures alone { F.honest → (l : Turn) → SendsBytes want.now l.answer l.sends → LeadsAlone (HoldsClone F.content) clone.old clone.new (RestAlone P.says P.Answer.remaining l shared.old result shared.new) }
     ensures kept { F.honest → KeepsOwn (F.content clone.old.files) (F.content clone.new.files) }
     ensures wear { WritesOrLoses (Lost P.loses P.Answer.remaining P.Answer.failed P.Answer.can_fail) F.honest F.content F.failed F.can_fail F.left clone.old.files clone.new.files (TellsClone result) }
     ensures peer_wear { Wears P.failed P.can_fail unstopped shared.old shared.new (TellsPeer P.is_device result) }
@@ -123,6 +129,7 @@ fn fetch_round<P: Peer, F: Files>(
     clone: &mut CloneNode<F>,
 ) -> Result<Fetched, ExchangeEnd<P::Refusal>>
     ensures round { P.honest → F.honest → Leads P.holds (HoldsClone F.content) shared.old shared.new clone.old clone.new (IsRound P.told result) }
+    ensures alone { F.honest → LeadsAlone (HoldsClone F.content) clone.old clone.new (RoundAlone P.says P.Answer.remaining shared.old result shared.new) }
     ensures kept { F.honest → KeepsOwn (F.content clone.old.files) (F.content clone.new.files) }
     ensures wear { WritesOrLoses (Lost P.loses P.Answer.remaining P.Answer.failed P.Answer.can_fail) F.honest F.content F.failed F.can_fail F.left clone.old.files clone.new.files (TellsClone result) }
     ensures peer_wear { Wears P.failed P.can_fail unstopped shared.old shared.new (TellsPeer P.is_device result) }
@@ -160,6 +167,7 @@ pub fn exchange_fetch<P: Peer, F: Files>(
 ) -> Result<Fetched, ExchangeEnd<P::Refusal>>
     ensures fetched { P.honest → F.honest → Leads P.holds (HoldsClone F.content) shared.old shared.new clone.old clone.new (IsFetch P.told None result) }
     ensures caught_up { P.honest → F.honest → Leads P.holds (HoldsClone F.content) shared.old shared.new clone.old clone.new (CatchesUp P.told result) }
+    ensures alone { F.honest → LeadsAlone (HoldsClone F.content) clone.old clone.new (FetchAlone P.says P.Answer.remaining shared.old result shared.new) }
     ensures kept { F.honest → KeepsOwn (F.content clone.old.files) (F.content clone.new.files) }
     ensures wear { WritesOrLoses (Lost P.loses P.Answer.remaining P.Answer.failed P.Answer.can_fail) F.honest F.content F.failed F.can_fail F.left clone.old.files clone.new.files (TellsClone result) }
     ensures peer_wear { Wears P.failed P.can_fail unstopped shared.old shared.new (TellsPeer P.is_device result) }

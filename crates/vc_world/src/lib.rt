@@ -9,6 +9,7 @@ mod ending;
 mod fetching;
 mod laws;
 mod losing;
+mod over_files;
 mod peer;
 mod pushing;
 
@@ -16,7 +17,8 @@ pub use ending::ExchangeEnd;
 pub use fetching::{Fetched, exchange_fetch};
 pub use laws::{
     a_branch_that_may_be_pushed_can_be_tracked, a_chain_of_calls_is_a_fetch,
-    a_chain_of_calls_is_a_push,
+    a_chain_of_calls_is_a_push, a_trail_keeps_a_clone,
 };
+pub use over_files::{fetch_into, push_from};
 pub use peer::{Peer, Reply};
 pub use pushing::{exchange_push, exchange_push_atomic};

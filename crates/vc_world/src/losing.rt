@@ -1,7 +1,7 @@
 // An answer that is lost on its way to the clone.
-ghost use Rattle.std.specs.Prelude.{◌≡◌, Err, true};
-ghost use Rattle.vc_model.specs.CloneCall.CloneCall.{Receive};
-ghost use Rattle.vc_model.specs.Message.{Message as Sent};
+ghost use Rattle.std.specs.Prelude.{◌≡◌, ◌≢◌, Err, true};
+ghost use Rattle.vc_model.specs.CloneCall.{CloneCall};
+ghost use Rattle.vc_model.specs.CloneCall.CloneCall.{Open};
 ghost use Rattle.vc_node.specs.CloneCalls.{ReceivedAs};
 ghost use Rattle.vc_node.specs.CloneFaults.{of_device};
 ghost use Rattle.vc_node.specs.Node.{AnswersCall};
@@ -15,7 +15,7 @@ use vc_object_map::StoreFault;
 pub(crate) fn lose<F: Files>(clone: &mut CloneNode<F>, fault: Fault) -> CloneFault
     ensures fault { result ≡ of_device fault }
     ensures same { clone.new.files ≡ clone.old.files }
-    ensures answers { F.honest → clone.old.is_up ≡ true → (m : Sent) → AnswersCall F.content (Receive m) (ReceivedAs (Err result)) clone.old clone.new }
+    ensures answers { F.honest → clone.old.is_up ≡ true → (call : CloneCall) → call ≢ Open → AnswersCall F.content call (ReceivedAs (Err result)) clone.old clone.new }
 {
     clone.take_down();
     CloneFault::Node(NodeFault::Store(StoreFault::Fault(fault)))

@@ -5,6 +5,7 @@ ghost use Rattle.vc_message.specs.Machine.{Reads};
 ghost use Rattle.vc_model.specs.Message.{Message as Sent};
 ghost use Rattle.vc_model.specs.Node.{Answer};
 ghost use Rattle.vc_model.specs.Shared.{SharedNode};
+ghost use Rattle.vc_world.specs.Alone.{Saying, WasSpelled};
 ghost use Rattle.vc_world.specs.Devices.{IsToRead};
 ghost use Rattle.vc_world.specs.Exchanging.{AnswersPeer};
 
@@ -50,9 +51,15 @@ pub trait Peer {
     /// Whether an answer may be lost on its way, as on a connection.
     ghost loses: { Type 0 };
 
+    /// What it says when it is asked, whoever it is. Nothing is known of this but that its answers are so: who asks can only have an
+    /// answer from it.
+    ghost says: { Saying Self Self.Refusal Self.Answer };
+
     /// Sends the message that is all of the bytes, and gives the one that comes back.
     fn ask(&mut self, bytes: &[u8]) -> Result<Reply<Self::Answer>, Self::Refusal>
         ensures answers { honest → (m : Sent) → Reads bytes.now m → AnswersPeer holds told Self.Answer.remaining m result self.old self.new }
         ensures whole { IfOk result (λ reply. IsToRead reply → loses) }
+        ensures said { says self.old bytes.now result self.new }
+        ensures read { IfOk result WasSpelled }
         ensures wear { Wears failed can_fail unstopped self.old self.new (IsErrAnd result is_device) };
 }

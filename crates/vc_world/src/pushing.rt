@@ -1,8 +1,8 @@
 // A whole push.
-ghost use Rattle.std.specs.Prelude.{◌≡◌, ◌≢◌, [], IfErr, IfOk, false, true};
+ghost use Rattle.std.specs.Prelude.{◌≡◌, ◌≢◌, ℕ, [], IfErr, IfOk, false, true};
 ghost use Rattle.vc_files.specs.Failures.{Wears, Writes, unstopped};
 ghost use Rattle.vc_message.specs.AnyView.{message_text};
-ghost use Rattle.vc_message.specs.Machine.{IsReport, Reads, TextOf};
+ghost use Rattle.vc_message.specs.Machine.{IsReport, IsUnread, Reads, TextOf};
 ghost use Rattle.vc_model.specs.Message.{Message as Sent};
 ghost use Rattle.vc_model.specs.Clone.Task.{StartPush};
 ghost use Rattle.vc_model.specs.CloneCall.CloneCall.{Command};
@@ -12,6 +12,7 @@ ghost use Rattle.vc_node.specs.Node.{AnswersCall, PushesNoZero};
 ghost use Rattle.vc_sending.specs.Sending.{machine_items};
 ghost use Rattle.vc_push.specs.ReportView.{report_text};
 ghost use Rattle.vc_node.specs.Stored.{KeepsOwn};
+ghost use Rattle.vc_world.specs.Alone.{LeadsAlone, PushAlone, RefusesUnread, ReportsFirst, ReportsReply, WasSpelled};
 ghost use Rattle.vc_world.specs.Devices.{BringsNone, IsLost, IsOwn, Lost, TellsClone, TellsPeer, WritesOrLoses};
 ghost use Rattle.vc_world.specs.Exchanging.{Begins, Brings, HoldsClone, IsNoReport, IsPush, Leads, PushesOne};
 ghost use Rattle.vc_world.specs.Pushing.{IsUnreadReport, TakesAnswer, report_in, taken};
@@ -76,6 +77,7 @@ fn take_bytes<F: Files, R: Drop>(
     answer: &[u8],
 ) -> Result<Report, ExchangeEnd<R>>
     ensures takes { F.honest → (m : Sent) → Reads answer.now m → TakesAnswer F.content m result clone.old clone.new }
+    ensures unread { F.honest → (n : ℕ) → IsUnread answer.now n → RefusesUnread F.content n result clone.old clone.new }
     ensures kept { F.honest → KeepsOwn (F.content clone.old.files) (F.content clone.new.files) }
     ensures wear { Writes F.honest F.content F.failed F.can_fail F.left clone.old.files clone.new.files (TellsClone result) }
     ensures own { IfErr result IsOwn }
@@ -144,6 +146,7 @@ fn take_from<F: Files, A: Source, R: Drop>(
     reader: &mut A,
 ) -> Result<Report, ExchangeEnd<R>>
     ensures takes { F.honest → (m : Sent) → Begins (A.remaining reader.old) m → TakesAnswer F.content m result clone.old clone.new }
+    ensures alone { F.honest → ReportsFirst F.content (A.remaining reader.old) result clone.old clone.new }
     ensures kept { F.honest → KeepsOwn (F.content clone.old.files) (F.content clone.new.files) }
     ensures wear { WritesOrLoses (BringsNone A.remaining A.failed A.can_fail reader.old reader.new) F.honest F.content F.failed F.can_fail F.left clone.old.files clone.new.files (TellsClone result) }
     ensures own { IfErr result IsOwn }
@@ -167,6 +170,7 @@ fn take_reply<F: Files, A: Source + Drop, R: Drop>(
     reply: Reply<A>,
 ) -> Result<Report, ExchangeEnd<R>>
     ensures takes { F.honest → (m : Sent) → Brings A.remaining reply m → TakesAnswer F.content m result clone.old clone.new }
+    ensures alone { F.honest → WasSpelled reply → ReportsReply F.content A.remaining reply result clone.old clone.new }
     ensures kept { F.honest → KeepsOwn (F.content clone.old.files) (F.content clone.new.files) }
     ensures wear { WritesOrLoses (IsLost A.remaining A.failed A.can_fail reply) F.honest F.content F.failed F.can_fail F.left clone.old.files clone.new.files (TellsClone result) }
     ensures own { IfErr result IsOwn }
@@ -195,8 +199,8 @@ fn start<F: Files>(
     clone.start_push(items)
 }
 
-// A whole push, which may be atomic.
-fn exchange<P: Peer, F: Files>(
+/// A whole push, which may be atomic.
+pub(crate) fn exchange<P: Peer, F: Files>(
     alloc: Global,
     shared: &mut P,
     clone: &mut CloneNode<F>,
@@ -206,6 +210,7 @@ fn exchange<P: Peer, F: Files>(
     requires some { items.now ≢ [] }
     ensures pushed { P.honest → F.honest → PushesNoZero items.now → Leads P.holds (HoldsClone F.content) shared.old shared.new clone.old clone.new (IsPush P.told atomic items.now result) }
     ensures done { P.honest → F.honest → PushesNoZero items.now → Leads P.holds (HoldsClone F.content) shared.old shared.new clone.old clone.new (PushesOne P.told items.now result) }
+    ensures alone { F.honest → PushesNoZero items.now → LeadsAlone (HoldsClone F.content) clone.old clone.new (PushAlone P.says P.Answer.remaining atomic items.now shared.old result shared.new) }
     ensures kept { F.honest → KeepsOwn (F.content clone.old.files) (F.content clone.new.files) }
     ensures wear { WritesOrLoses (Lost P.loses P.Answer.remaining P.Answer.failed P.Answer.can_fail) F.honest F.content F.failed F.can_fail F.left clone.old.files clone.new.files (TellsClone result) }
     ensures peer_wear { Wears P.failed P.can_fail unstopped shared.old shared.new (TellsPeer P.is_device result) }
@@ -231,6 +236,7 @@ pub fn exchange_push<P: Peer, F: Files>(
     requires some { items.now ≢ [] }
     ensures pushed { P.honest → F.honest → PushesNoZero items.now → Leads P.holds (HoldsClone F.content) shared.old shared.new clone.old clone.new (IsPush P.told false items.now result) }
     ensures done { P.honest → F.honest → PushesNoZero items.now → Leads P.holds (HoldsClone F.content) shared.old shared.new clone.old clone.new (PushesOne P.told items.now result) }
+    ensures alone { F.honest → PushesNoZero items.now → LeadsAlone (HoldsClone F.content) clone.old clone.new (PushAlone P.says P.Answer.remaining false items.now shared.old result shared.new) }
     ensures kept { F.honest → KeepsOwn (F.content clone.old.files) (F.content clone.new.files) }
     ensures wear { WritesOrLoses (Lost P.loses P.Answer.remaining P.Answer.failed P.Answer.can_fail) F.honest F.content F.failed F.can_fail F.left clone.old.files clone.new.files (TellsClone result) }
     ensures peer_wear { Wears P.failed P.can_fail unstopped shared.old shared.new (TellsPeer P.is_device result) }
@@ -248,6 +254,7 @@ pub fn exchange_push_atomic<P: Peer, F: Files>(
     requires some { items.now ≢ [] }
     ensures pushed { P.honest → F.honest → PushesNoZero items.now → Leads P.holds (HoldsClone F.content) shared.old shared.new clone.old clone.new (IsPush P.told true items.now result) }
     ensures done { P.honest → F.honest → PushesNoZero items.now → Leads P.holds (HoldsClone F.content) shared.old shared.new clone.old clone.new (PushesOne P.told items.now result) }
+    ensures alone { F.honest → PushesNoZero items.now → LeadsAlone (HoldsClone F.content) clone.old clone.new (PushAlone P.says P.Answer.remaining true items.now shared.old result shared.new) }
     ensures kept { F.honest → KeepsOwn (F.content clone.old.files) (F.content clone.new.files) }
     ensures wear { WritesOrLoses (Lost P.loses P.Answer.remaining P.Answer.failed P.Answer.can_fail) F.honest F.content F.failed F.can_fail F.left clone.old.files clone.new.files (TellsClone result) }
     ensures peer_wear { Wears P.failed P.can_fail unstopped shared.old shared.new (TellsPeer P.is_device result) }

@@ -6,6 +6,7 @@ use Rattle.vc_model.specs.Object.{zero_id}
 use Rattle.vc_local.proofs.LookLemmas.{looks_none, looks_told}
 use Rattle.vc_world.specs.declared.ending.ExchangeEnd.TheVariants.{Clone, Shared}
 use Rattle.vc_node.proofs.OwnLemmas.{own_same, own_then}
+use Rattle.vc_world.proofs.AlonePushes.{push_answered, push_unanswered, push_unsent}
 use Rattle.vc_world.proofs.PushCalls.{comes, not_answered, not_sent, pushes_one}
 use Rattle.vc_world.proofs.WearLemmas.{lost_told, none_lost, one_lost, own_peer, then_lost}
 use Rattle.vc_world.proofs.pushing.exchange.Goals as goal
@@ -16,6 +17,7 @@ returns-in-Err g c =
     record {
       pushed = leads;
       done = λ p f z. pushes_one g.P.Peer.holds g.P.Peer.told g.P.Answer.Source.remaining g.F.Files.content c.args.atomic c.args.items.now (Err (Clone c.in-Err.fault)) c.args.shared.now c.args.shared.now c.args.clone.now c.start.new.clone (leads p f z);
+      alone = λ f z. push_unsent g.P.Peer.says g.P.Answer.Source.remaining g.F.Files.content c.args.atomic c.args.items.now c.in-Err.fault c.args.shared.now c.args.clone.now c.start.new.clone (c.in-Err.ensures.answers f z);
       kept = λ f. own_same _ _ c.in-Err.ensures.same;
       wear = none_lost (wears_writes c.in-Err.ensures.wear (λ h. c.in-Err.ensures.same));
       peer_wear = looks_none (λ never. never);
@@ -27,6 +29,7 @@ returns-in-Err-ask g c =
     record {
       pushed = leads;
       done = λ p f z. pushes_one g.P.Peer.holds g.P.Peer.told g.P.Answer.Source.remaining g.F.Files.content c.args.atomic c.args.items.now (Err (Shared c.in-Err-ask.refusal)) c.args.shared.now c.ask.new.self c.args.clone.now c.start.new.clone (leads p f z);
+      alone = λ f z. push_unanswered g.P.Peer.says g.P.Answer.Source.remaining g.F.Files.content c.args.atomic c.args.items.now c.in-Ok.push c.deref.result.now c.in-Err-ask.refusal c.args.shared.now c.ask.new.self c.args.clone.now c.start.new.clone (c.in-Ok.ensures.answers f z) c.deref.ensures.value c.in-Err-ask.ensures.said;
       kept = λ f. own_same _ _ c.in-Ok.ensures.same;
       wear = none_lost (wears_writes c.in-Ok.ensures.wear (λ h. c.in-Ok.ensures.same));
       peer_wear = c.in-Err-ask.ensures.wear;
@@ -39,6 +42,11 @@ returns-clause-pushed g c p f z =
 
 pub returns-clause-done : goal.returns-clause-done
 returns-clause-done g c p f z = pushes_one g.P.Peer.holds g.P.Peer.told g.P.Answer.Source.remaining g.F.Files.content c.args.atomic c.args.items.now c.take_reply.result c.args.shared.now c.ask.new.self c.args.clone.now c.take_reply.new.clone (returns-clause-pushed g c p f z)
+
+pub returns-clause-alone : goal.returns-clause-alone
+returns-clause-alone g c f z =
+    push_answered g.P.Peer.says g.P.Answer.Source.remaining g.F.Files.content c.args.atomic c.args.items.now c.in-Ok.push c.deref.result.now c.in-Ok-ask.reply c.take_reply.result c.args.shared.now c.ask.new.self c.args.clone.now c.start.new.clone c.take_reply.new.clone
+    (c.in-Ok.ensures.answers f z) c.deref.ensures.value c.in-Ok-ask.ensures.said (c.take_reply.ensures.alone f c.in-Ok-ask.ensures.read)
 
 pub returns-clause-kept : goal.returns-clause-kept
 returns-clause-kept g c f = own_then (own_same _ _ c.in-Ok.ensures.same) (c.take_reply.ensures.kept f)

@@ -7,6 +7,8 @@ pub returns-in-Ok : goal.returns-in-Ok
 returns-in-Ok g c = record {
   answers = λ f m reads. peer_answers _ (λ shared. g.F.Files.content shared.files) (λ shared. shared.slots) (λ shared. shared.is_up) m (Ok c.in-Ok.reply) c.args.self.now c.answer.new.shared (c.in-Ok.ensures.answers f m reads);
   whole = λ never. never;
+  said = tt;
+  read = tt;
   wear = stops (λ shared. shared.files) c.args.self.now c.answer.new.shared c.in-Ok.ensures.wear;
 }
 
@@ -14,5 +16,7 @@ pub returns-in-Err : goal.returns-in-Err
 returns-in-Err g c = record {
   answers = λ f m reads. peer_answers _ (λ shared. g.F.Files.content shared.files) (λ shared. shared.slots) (λ shared. shared.is_up) m (Err c.in-Err.fault) c.args.self.now c.answer.new.shared (c.in-Err.ensures.answers f m reads);
   whole = tt;
+  said = tt;
+  read = tt;
   wear = stops (λ shared. shared.files) c.args.self.now c.answer.new.shared c.in-Err.ensures.wear;
 }
