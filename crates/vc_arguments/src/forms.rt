@@ -1,5 +1,13 @@
 //! The subcommands by a table: what each is called, which words it takes, and what help says of them.
 
+ghost use Rattle.std.specs.Prelude.{◌≡◌, IfOk, false, map, true};
+ghost use Rattle.std.specs.List.{fold};
+ghost use Rattle.clap.specs.Words.{app_of, is_simple, rule_of};
+ghost use Rattle.clap.specs.declared.builder.command.Command.TheViews.{out-Command as fields_of};
+ghost use Rattle.vc_arguments.specs.Forms.{Choices, Holds, branch_forms, form_view, given_view, index_forms, object_forms};
+ghost use Rattle.vc_arguments.specs.Forms.{kind_words, mode_words, part_words, remote_forms, revision_forms};
+ghost use Rattle.vc_arguments.specs.Program.{IsProgram, add_form, app_of_form, rule_given};
+
 use clap::builder::ValueParser;
 use clap::{Arg, ArgAction, Command};
 use std::alloc::{AllocError, Global};
@@ -119,7 +127,8 @@ const REVISION: Argument = Argument {
     help: COMMIT,
 };
 
-const FORMS: [Form; 21] = [
+// Of a store and its objects.
+static OBJECT_FORMS: [Form; 3] = [
     Form {
         name: "init",
         about: "Make a store whose HEAD is refs/heads/main; one that is there stays as it is",
@@ -172,6 +181,10 @@ const FORMS: [Form; 21] = [
             },
         ],
     },
+];
+
+// Of refs and revisions.
+static REVISION_FORMS: [Form; 4] = [
     Form {
         name: "show-ref",
         about: "Print the refs by name, each with its id before it",
@@ -226,6 +239,10 @@ const FORMS: [Form; 21] = [
             },
         ],
     },
+];
+
+// Of the index, up to a commit of it.
+static INDEX_FORMS: [Form; 4] = [
     Form {
         name: "add",
         about: "Put files of the work tree into the index",
@@ -299,6 +316,10 @@ const FORMS: [Form; 21] = [
             },
         ],
     },
+];
+
+// Of branches and the work tree.
+static BRANCH_FORMS: [Form; 6] = [
     Form {
         name: "branch",
         about: "Set a branch to a commit, whatever it was; commits that it alone named lose their name",
@@ -343,6 +364,10 @@ const FORMS: [Form; 21] = [
         after: "Example: vcs status",
         arguments: &[STORE, WORK],
     },
+];
+
+// Of other processes, and of a world.
+static REMOTE_FORMS: [Form; 4] = [
     Form {
         name: "serve",
         about: "Let clones on this machine fetch from the store and push to it",
@@ -424,21 +449,78 @@ const FORMS: [Form; 21] = [
     },
 ];
 
+// The parts of the table, in their order.
+
+fn object_forms() -> &'static [Form]
+    ensures { (kinds parts : Choices) × Holds kinds kind_words × Holds parts part_words
+        × (map form_view result.now ≡ object_forms kinds parts) }
+{
+    OBJECT_FORMS.as_slice()
+}
+
+fn revision_forms() -> &'static [Form]
+    ensures { map form_view result.now ≡ revision_forms }
+{
+    REVISION_FORMS.as_slice()
+}
+
+fn index_forms() -> &'static [Form]
+    ensures { (modes : Choices) × Holds modes mode_words × (map form_view result.now ≡ index_forms modes) }
+{
+    INDEX_FORMS.as_slice()
+}
+
+fn branch_forms() -> &'static [Form]
+    ensures { map form_view result.now ≡ branch_forms }
+{
+    BRANCH_FORMS.as_slice()
+}
+
+fn remote_forms() -> &'static [Form]
+    ensures { map form_view result.now ≡ remote_forms }
+{
+    REMOTE_FORMS.as_slice()
+}
+
 /// The whole command line.
-pub fn command<'a>(alloc: Global) -> Result<Command<'a>, AllocError> {
-    let mut program = Command::new(alloc, "vcs")
+pub fn command<'a>(alloc: Global) -> Result<Command<'a>, AllocError>
+    ensures program { IfOk result (λ program. IsProgram (app_of program)) }
+    ensures simple { IfOk result (λ program. is_simple (app_of program) ≡ true) }
+    ensures local { IfOk result (λ program. (fields_of program).has_globals ≡ false) }
+{
+    let program = Command::new(alloc, "vcs")
         .version("0.1.0")
         .about("A version control core with Git's object model: nothing that was committed is lost")
         .subcommand_required(true)
         .arg_required_else_help(true);
-    for form in FORMS.as_slice() {
-        program = program.subcommand(command_of(alloc, form)?)?;
+    let program = with_forms(alloc, program, object_forms())?;
+    let program = with_forms(alloc, program, revision_forms())?;
+    let program = with_forms(alloc, program, index_forms())?;
+    let program = with_forms(alloc, program, branch_forms())?;
+    with_forms(alloc, program, remote_forms())
+}
+
+// The program with one more subcommand for each form.
+fn with_forms<'a>(
+    alloc: Global,
+    program: Command<'a>,
+    forms: &[Form],
+) -> Result<Command<'a>, AllocError>
+    ensures app { IfOk result (λ made. app_of made ≡ fold add_form (app_of program.entry) (map form_view forms.now)) }
+    ensures local { IfOk result (λ made. (fields_of made).has_globals ≡ (fields_of program.entry).has_globals) }
+{
+    let mut made = program;
+    for form in forms {
+        made = made.subcommand(command_of(alloc, form)?)?;
     }
-    Ok(program)
+    Ok(made)
 }
 
 // A subcommand as clap has it.
-fn command_of<'a>(alloc: Global, form: &Form) -> Result<Command<'a>, AllocError> {
+fn command_of<'a>(alloc: Global, form: &Form) -> Result<Command<'a>, AllocError>
+    ensures app { IfOk result (λ command. app_of command ≡ app_of_form (form_view form.now)) }
+    ensures local { IfOk result (λ command. (fields_of command).has_globals ≡ false) }
+{
     let mut command = Command::new(alloc, form.name)
         .about(form.about)
         .after_help(form.after);
@@ -449,54 +531,63 @@ fn command_of<'a>(alloc: Global, form: &Form) -> Result<Command<'a>, AllocError>
 }
 
 // An argument as clap has it.
-fn arg_of<'a>(alloc: Global, argument: &Argument) -> Result<Arg<'a>, AllocError> {
+fn arg_of<'a>(alloc: Global, argument: &Argument) -> Result<Arg<'a>, AllocError>
+    ensures rule { IfOk result (λ arg. rule_of arg ≡ rule_given argument.now.id.now (given_view argument.now.given)) }
+    ensures local { IfOk result (λ arg. arg.global ≡ false) }
+{
     let arg = Arg::new(alloc, argument.id).help(argument.help);
-    let arg = match argument.given {
-        Given::Default(value) => arg
-            .long(argument.id)
-            .value_name(argument.value)
-            .default_value(value),
-        Given::OneOf(values, value) => arg
-            .long(argument.id)
-            .value_name(argument.value)
-            .value_parser(values)
-            .default_value(value),
-        Given::Said => arg
-            .long(argument.id)
-            .value_name(argument.value)
-            .required(true),
-        Given::Number(most) => arg
-            .long(argument.id)
-            .value_name(argument.value)
-            .required(true)
-            .value_parser(ValueParser::Unsigned(1, most)),
-        Given::MaybeNumber(most) => arg
-            .long(argument.id)
-            .value_name(argument.value)
-            .value_parser(ValueParser::Unsigned(1, most)),
+    match argument.given {
+        Given::Default(value) => Ok(
+            arg.long(argument.id)
+                .value_name(argument.value)
+                .default_value(value),
+        ),
+        Given::OneOf(values, value) => Ok(
+            arg.long(argument.id)
+                .value_name(argument.value)
+                .value_parser(values)
+                .default_value(value),
+        ),
+        Given::Said => Ok(
+            arg.long(argument.id)
+                .value_name(argument.value)
+                .required(true),
+        ),
+        Given::Number(most) => Ok(
+            arg.long(argument.id)
+                .value_name(argument.value)
+                .required(true)
+                .value_parser(ValueParser::Unsigned(1, most)),
+        ),
+        Given::MaybeNumber(most) => Ok(
+            arg.long(argument.id)
+                .value_name(argument.value)
+                .value_parser(ValueParser::Unsigned(1, most)),
+        ),
         Given::NumberWithout(most, other) => arg
             .long(argument.id)
             .value_name(argument.value)
             .value_parser(ValueParser::Unsigned(1, most))
-            .conflicts_with(other)?,
-        Given::NumberOr(least, most, value) => arg
-            .long(argument.id)
-            .value_name(argument.value)
-            .value_parser(ValueParser::Unsigned(least, most))
-            .default_value(value),
-        Given::Switch => arg.long(argument.id).action(ArgAction::SetTrue),
+            .conflicts_with(other),
+        Given::NumberOr(least, most, value) => Ok(
+            arg.long(argument.id)
+                .value_name(argument.value)
+                .value_parser(ValueParser::Unsigned(least, most))
+                .default_value(value),
+        ),
+        Given::Switch => Ok(arg.long(argument.id).action(ArgAction::SetTrue)),
         Given::SwitchBeside(other) => arg
             .long(argument.id)
             .action(ArgAction::SetTrue)
-            .requires_arg(other)?,
-        Given::Flag(letter) => arg
-            .long(argument.id)
-            .short(letter)
-            .action(ArgAction::SetTrue),
-        Given::One => arg.value_name(argument.value).required(true),
-        Given::Maybe => arg.value_name(argument.value),
-        Given::Some => arg.value_name(argument.value).required(true).num_args(1..),
-        Given::Any => arg.value_name(argument.value).num_args(0..),
-    };
-    Ok(arg)
+            .requires_arg(other),
+        Given::Flag(letter) => Ok(
+            arg.long(argument.id)
+                .short(letter)
+                .action(ArgAction::SetTrue),
+        ),
+        Given::One => Ok(arg.value_name(argument.value).required(true)),
+        Given::Maybe => Ok(arg.value_name(argument.value)),
+        Given::Some => Ok(arg.value_name(argument.value).required(true).num_args(1..)),
+        Given::Any => Ok(arg.value_name(argument.value).num_args(0..)),
+    }
 }

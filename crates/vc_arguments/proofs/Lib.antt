@@ -1,0 +1,4 @@
+pub mod FormLemmas
+pub mod KnownLines
+pub mod ProgramLemmas
+pub mod RowLemmas
