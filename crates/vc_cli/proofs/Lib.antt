@@ -1,1 +1,3 @@
+pub mod PrintLemmas
+pub mod StoreLemmas
 pub mod ToldLemmas

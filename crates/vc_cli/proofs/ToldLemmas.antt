@@ -1,6 +1,6 @@
 -- For what is told of a failure: its line, and a line behind it; what is handed on of a result, and which faults are a stream's.
-use Rattle.std.proofs.Common.{◌≡◌, ℕ, List, ◌++◌, Option, None, Some, Ok, Err, sym, subst}
-use Rattle.std.specs.Prelude.{Result, IfErr, IfSome, IsErrAnd, OnOk}
+use Rattle.std.proofs.Common.{◌≡◌, ℕ, List, ◌++◌, Option, Ok, Err, sym, subst}
+use Rattle.std.specs.Prelude.{Result, IfErr, IsErrAnd, OnOk}
 use Rattle.std.specs.Io.KnownBytes.{Appends}
 use Rattle.std.proofs.KnownBytes.{Appends-trans}
 use Rattle.vc_cli.specs.Failure.{IsFault, IsOfFiles, TellsOfFiles}
@@ -8,10 +8,9 @@ use Rattle.vc_cli.specs.Told.{failure_line}
 use Rattle.vc_cli.specs.declared.failure.Failure.{Failure}
 use Rattle.vc_cli.specs.declared.failure.Failure.TheVariants.{Fault}
 
--- what is appended behind a line stands behind it
-pub told_behind : (text a b c : Option (List ℕ)) (rest : List ℕ) → IfSome text (λ t. Appends a b (failure_line t)) → Appends b c rest → IfSome text (λ t. Appends a c (failure_line t ++ rest))
-told_behind None a b c rest line behind = tt
-told_behind (Some t) a b c rest line behind = Appends-trans a b c (failure_line t) rest line behind
+-- what is appended after a line stands after it
+pub told_behind : (text : List ℕ) (a b c : Option (List ℕ)) (rest : List ℕ) → Appends a b (failure_line text) → Appends b c rest → Appends a c (failure_line text ++ rest)
+told_behind text a b c rest line behind = Appends-trans a b c (failure_line text) rest line behind
 
 -- a failure that is handed on
 pub handed_on : {T : Type 0} (P : Failure → Type 0) (failure : Failure) (r : Result T Failure) → IsErrAnd r (λ e. e ≡ failure) → P failure → IfErr r P

@@ -2,3 +2,4 @@ pub mod Failure
 pub mod Printed
 pub mod Revisions
 pub mod Told
+pub mod Stores

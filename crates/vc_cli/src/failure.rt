@@ -1,8 +1,9 @@
 //! Why a command ended without its answer: the line that it prints, and its exit status.
-ghost use Rattle.std.specs.Prelude.{◌≡◌, ◌↔◌, IfOk, IfErr, IfSome, IsTrue, OnOk};
+ghost use Rattle.std.specs.Fmt.{WritesOnOk};
+ghost use Rattle.std.specs.Prelude.{◌≡◌, ◌↔◌, IfOk, IfErr, IsTrue, OnOk};
 ghost use Rattle.std.specs.Option.{option_map};
 ghost use Rattle.vc_files.specs.declared.faults.Fault.TheVariants.{Memory};
-ghost use Rattle.vc_cli.specs.Told.{AppendsFailure};
+ghost use Rattle.vc_cli.specs.Told.{AppendsFailure, shown_byte, shown_text, unread_text};
 ghost use Rattle.vc_cli.specs.declared.failure.Failure.TheVariants.{Object, Store, History, Refs, Fault, Syntax, Revision, Node};
 ghost use Rattle.vc_rev.specs.declared.refusal.RevFault.TheVariants.{Source};
 ghost use Rattle.vc_local.specs.NodeFault.{of_index};
@@ -81,7 +82,9 @@ pub enum Failure {
 }
 
 // A byte that a terminal shows as a letter, digit or mark; any other as a question mark.
-fn shown(byte: u8) -> char {
+fn shown(byte: u8) -> char
+    ensures { result ≡ shown_byte byte }
+{
     if byte < 32 || byte > 126 {
         '?'
     } else {
@@ -90,17 +93,32 @@ fn shown(byte: u8) -> char {
 }
 
 // Writes what another program sent, so that it does nothing to a terminal.
-fn write_shown<W: fmt::Write>(text: &[u8], f: &mut fmt::Formatter<W>) -> fmt::Result {
-    for byte in text {
+fn write_shown<W: fmt::Write>(text: &[u8], f: &mut fmt::Formatter<W>) -> fmt::Result
+    ensures { WritesOnOk W.write_str_gives f.old result (shown_text text.now) f.new }
+{
+    'bytes: for byte in text {
         f.write_char(shown(*byte))?;
     }
     Ok(())
 }
 
+// Writes why bytes are no message, without the place.
+fn write_unread<W: fmt::Write>(fault: &PktFault, f: &mut fmt::Formatter<W>) -> fmt::Result
+    ensures { WritesOnOk W.write_str_gives f.old result (unread_text fault.now) f.new }
+{
+    match fault {
+        PktFault::BadLength(_) => f.write_str(BAD_LENGTH),
+        PktFault::BadRecord(_) => f.write_str(BAD_RECORD),
+        PktFault::SizeMismatch | PktFault::CutMessage => fmt::Display::fmt(fault, f),
+        PktFault::TooMany | PktFault::TooLarge => fmt::Display::fmt(fault, f),
+    }
+}
+
 impl fmt::Display for Failure {
+    ghost use Rattle.std.specs.Prelude.{Some};
     ghost use Rattle.vc_cli.specs.Told.{failure_text};
 
-    ghost output = { failure_text };
+    ghost output = { λ failure. Some (failure_text failure) };
 
     fn fmt<W: fmt::Write>(&self, f: &mut fmt::Formatter<W>) -> fmt::Result {
         match self {
@@ -120,9 +138,7 @@ impl fmt::Display for Failure {
             Failure::Refused(text) => write_shown(text, f),
             Failure::ReadFailed => fmt::Display::fmt(&IncomingFault::Failed, f),
             Failure::WriteFailed => f.write_str(WRITE_FAILED),
-            Failure::Unread(PktFault::BadLength(_)) => f.write_str(BAD_LENGTH),
-            Failure::Unread(PktFault::BadRecord(_)) => f.write_str(BAD_RECORD),
-            Failure::Unread(fault) => fmt::Display::fmt(fault, f),
+            Failure::Unread(fault) => write_unread(fault, f),
             Failure::Unexpected => f.write_str(NOTHING_AWAITED),
             Failure::Incomplete(id) => fmt::Display::fmt(&AnswerFault::Incomplete(*id), f),
             Failure::BadScript => fmt::Display::fmt(&ScriptFault::BadScript, f),
@@ -177,7 +193,7 @@ impl Failure {
         faults: &mut Faults<W>,
     ) -> Result<u8, Failure>
         ensures status { IfOk result (λ status. status ≡ status_of self.now) }
-        ensures told { OnOk result (IfSome (failure_text self.now) (AppendsFailure W.contents faults.old faults.new (option_map (λ line. line.now) behind.entry))) }
+        ensures told { OnOk result (AppendsFailure W.contents faults.old faults.new (option_map (λ line. line.now) behind.entry) (failure_text self.now)) }
         ensures fault { IfErr result IsFault }
     {
         self.print(&mut faults.stream)?;
@@ -189,7 +205,7 @@ impl Failure {
 
     // Prints the line of this failure.
     fn print<W: Write>(&self, stream: &mut W) -> Result<(), Failure>
-        ensures line { OnOk result (IfSome (failure_text self.now) (λ text. Appends (W.contents stream.old) (W.contents stream.new) (failure_line text))) }
+        ensures line { OnOk result (Appends (W.contents stream.old) (W.contents stream.new) (failure_line (failure_text self.now))) }
         ensures fault { IfErr result IsFault }
     {
         writeln!(stream, "vcs: {self}")?;

@@ -1,8 +1,8 @@
 //! Where a command tells what is no answer.
 
-ghost use Rattle.std.specs.Prelude.{◌≡◌, IfErr, OnOk, Some, false};
+ghost use Rattle.std.specs.Prelude.{◌≡◌, IfErr, Ok, OnOk, Some, false};
 ghost use Rattle.std.specs.Io.KnownBytes.{Appends, Keeps};
-ghost use Rattle.vc_cli.specs.Told.{line_behind};
+ghost use Rattle.vc_cli.specs.Told.{failure_line, line_behind, old_branch_line};
 ghost use Rattle.vc_cli.specs.Failure.{IsFault};
 
 use crate::failure::Failure;
@@ -19,7 +19,9 @@ pub struct Faults<W> {
 impl<W: Write> Faults<W> {
     /// Tells a person something that no program has to know: on a terminal alone.
     pub fn tell(&mut self, line: &str) -> Result<(), Failure>
-        ensures silent { self.old.is_terminal ≡ false → Keeps (W.contents self.old.stream) (W.contents self.new.stream) }
+        ensures told { OnOk result (Appends (W.contents self.old.stream) (W.contents self.new.stream) (line_behind self.old.is_terminal (Some (failure_line line.now)))) }
+        ensures silent { self.old.is_terminal ≡ false → (result ≡ Ok tt) × Keeps (W.contents self.old.stream) (W.contents self.new.stream) }
+        ensures fault { IfErr result IsFault }
     {
         if self.is_terminal {
             writeln!(self.stream, "vcs: {line}")?;
@@ -41,7 +43,9 @@ impl<W: Write> Faults<W> {
 
     /// Tells a person what a branch was before it was set or removed, so that nothing is out of reach by a slip.
     pub fn tell_old_branch(&mut self, name: &str, id: &ObjectId) -> Result<(), Failure>
-        ensures silent { self.old.is_terminal ≡ false → Keeps (W.contents self.old.stream) (W.contents self.new.stream) }
+        ensures told { OnOk result (Appends (W.contents self.old.stream) (W.contents self.new.stream) (line_behind self.old.is_terminal (Some (old_branch_line name.now id.now)))) }
+        ensures silent { self.old.is_terminal ≡ false → (result ≡ Ok tt) × Keeps (W.contents self.old.stream) (W.contents self.new.stream) }
+        ensures fault { IfErr result IsFault }
     {
         if self.is_terminal {
             write!(self.stream, "vcs: refs/heads/{name} was ")?;

@@ -1,4 +1,7 @@
 //! Which store a command works on where none is named.
+ghost use Rattle.std.specs.Prelude.{IfErr};
+ghost use Rattle.vc_cli.specs.Failure.{IsFault};
+ghost use Rattle.vc_cli.specs.Stores.{IsUnopened};
 
 use crate::failure::{Failure, fault_of};
 use crate::repository::is_of_git;
@@ -14,6 +17,7 @@ const LEVELS: u32 = 100;
 pub fn refuse_second_store<R>(rt: &R) -> Result<(), Failure>
 where
     R: rt::Files + AllocGlobal + Clone + Drop,
+    ensures refused { IfErr result IsUnopened }
 {
     if is_there(rt, DEFAULT_STORE)? {
         return Ok(());
@@ -28,6 +32,7 @@ where
 fn second_store<R>(rt: &R, folder: &str) -> Failure
 where
     R: rt::Files + AllocGlobal + Clone + Drop,
+    ensures { IsUnopened result }
 {
     let line = format!(in rt.alloc();
         "no store is in {DEFAULT_STORE}, but one is in {folder}/{DEFAULT_STORE}: name it by --store {folder}/{DEFAULT_STORE} --work {folder}, or begin a new one by vcs init"
@@ -43,6 +48,7 @@ where
 fn folder_with_store<R>(rt: &R) -> Result<Option<String>, Failure>
 where
     R: rt::Files + AllocGlobal + Clone + Drop,
+    ensures { IfErr result IsFault }
 {
     let mut folder = String::from_str(rt.alloc(), "..")?;
     for _ in 0..LEVELS {
@@ -58,6 +64,7 @@ where
 fn has_store<R>(rt: &R, folder: &str) -> Result<bool, Failure>
 where
     R: rt::Files + AllocGlobal + Clone + Drop,
+    ensures { IfErr result IsFault }
 {
     let store = format!(in rt.alloc(); "{folder}/{DEFAULT_STORE}")?;
     if !is_there(rt, store.as_str())? {
@@ -73,7 +80,9 @@ where
 }
 
 // Whether something stands there. Of a folder that may not be looked into, nothing is known.
-fn is_there<R: rt::Files>(rt: &R, path: &str) -> Result<bool, Failure> {
+fn is_there<R: rt::Files>(rt: &R, path: &str) -> Result<bool, Failure>
+    ensures { IfErr result IsFault }
+{
     match fs::exists(rt, path) {
         Ok(is_there) => Ok(is_there),
         Err(error) => match error.kind() {

@@ -3,7 +3,8 @@ ghost use Rattle.std.specs.Prelude.{◌≡◌, Ok, IfOk, IfErr};
 ghost use Rattle.vc_object.specs.ObjectId.{IsSortedByName};
 ghost use Rattle.vc_cli.specs.Revisions.{Denoted, IsOfRevision, IsOfTerms, IsSelected};
 ghost use Rattle.vc_files.specs.Failures.{Wears};
-ghost use Rattle.vc_cli.specs.Failure.{TellsDevice};
+ghost use Rattle.vc_cli.specs.Failure.{IsFault, TellsDevice};
+ghost use Rattle.vc_cli.specs.Stores.{IsUnopened};
 
 use crate::failure::{Failure, fault_of};
 use std::alloc::Global;
@@ -22,6 +23,7 @@ use vc_rev_set::resolve_set;
 pub fn open_store<R>(rt: &R, folder: &str) -> Result<FolderFiles<R>, Failure>
 where
     R: rt::Files + Syncs<R::File> + AllocGlobal + Clone + Drop,
+    ensures refused { IfErr result IsUnopened }
 {
     refuse_store_of_git(rt, folder)?;
     let root = String::from_str(rt.alloc(), folder)?;
@@ -32,6 +34,7 @@ where
 pub fn refuse_store_of_git<R>(rt: &R, folder: &str) -> Result<(), Failure>
 where
     R: rt::Files + AllocGlobal,
+    ensures refused { IfErr result IsUnopened }
 {
     if is_of_git(rt, folder)? {
         return Err(Failure::Usage(format!(in rt.alloc();
@@ -42,7 +45,9 @@ where
 }
 
 /// Whether the folder has Git's file of settings, which begins with the section `core`. This program writes none.
-pub fn is_of_git<R: rt::Files + AllocGlobal>(rt: &R, folder: &str) -> Result<bool, Failure> {
+pub fn is_of_git<R: rt::Files + AllocGlobal>(rt: &R, folder: &str) -> Result<bool, Failure>
+    ensures fault { IfErr result IsFault }
+{
     let path = format!(in rt.alloc(); "{folder}/config")?;
     match fs::read(rt, path.as_str()) {
         Ok(text) => Ok(text.trim_ascii_start().starts_with(b"[core]")),

@@ -1,6 +1,9 @@
 //! One writer at a time: a command that writes to a store has it alone until it ends, and one that looks doesn't wait. And who
 //! stands on objects that nothing names yet, whom a prune must not take them from.
 
+ghost use Rattle.std.specs.Prelude.{IfErr};
+ghost use Rattle.vc_cli.specs.Stores.{IsInUse, IsUnopened};
+
 use crate::failure::Failure;
 use crate::faults::Faults;
 use crate::repository::refuse_store_of_git;
@@ -21,6 +24,7 @@ pub fn only_writer<R, E>(
 where
     R: rt::Files<File = File> + AllocGlobal + Clone + Drop,
     E: Write,
+    ensures refused { IfErr result IsUnopened }
 {
     refuse_store_of_git(rt, store)?;
     if let Some(lock) = FolderLock::try_take(rt, store)? {
@@ -55,6 +59,7 @@ where
 pub fn only_remover<R>(rt: &R, store: &str) -> Result<FolderLock<R>, Failure>
 where
     R: rt::Files<File = File> + AllocGlobal + Clone + Drop,
+    ensures refused { IfErr result IsInUse }
 {
     let folder = objects_of(rt.alloc(), store)?;
     match FolderLock::try_take(rt, folder.as_str())? {

@@ -1,3 +1,4 @@
 pub mod AddLemmas
 pub mod AddedLemmas
+pub mod OpenedLemmas
 pub mod StepLemmas

@@ -2,7 +2,8 @@
 use Rattle.std.proofs.Common.{◌≡◌, ℕ, ◌+◌, ◌<◌, true, Bool, List, [], ◌∷◌, ◌++◌, length, take, get_or, map, Ok, Err, ◌∙◌, ap, subst, sym, refl, inl, inr, zero, suc, arith}
 use Rattle.std.proofs.lemmas.List.{map-append, take_more}
 use denote.Ref.{Bor}
-use Rattle.std.specs.Prelude.{Option, Result, IfErr, OnErr}
+use Rattle.std.specs.Global.{Global}
+use Rattle.std.specs.Prelude.{Option, None, Result, String, IfErr, OnErr}
 use Rattle.vc_files.specs.FileMap.{FileMap}
 use Rattle.vc_files.specs.declared.faults.Fault.TheVariants.{Memory}
 use Rattle.vc_index.specs.Damage.{KeepsDamage}
@@ -26,6 +27,10 @@ use Rattle.vc_refname.specs.RefName.{IsRefName}
 use Rattle.vc_object_map.specs.Store.{IsDamaged}
 use Rattle.vc_object_map.specs.declared.faults.StoreFault.{StoreFault}
 use Rattle.vc_object_map.specs.declared.faults.StoreFault.TheVariants.{BadObject, Absent, Damaged, Fault as StoreFaulted}
+use Rattle.vc_refs.specs.RefFault.{BlamesRef}
+use Rattle.vc_refs.specs.Refs.{deciding_file, refs, IsBadRef}
+use Rattle.vc_refs.specs.declared.faults.RefFault.TheVariants.{BadRefFile}
+use Rattle.vc_working.proofs.CloneLemmas.{bad_no_ref}
 use Rattle.vc_working.specs.CloneWords.{branch_ref}
 use Rattle.vc_cli.specs.Revisions.{Denoted, IsOfRevision}
 use Rattle.vc_committing.specs.Steps.{AnswersBy, AnswersShownBy, AreDenoted, CommitsIndex, CommitsOn, IsOfCommit, IsOfCommitOn, IsOfRevisions, IsOfSetting, IsOfStep, KeepsAt, LeavesAt, MakesCommit, MakesNone, ReadsAt, SetsBranch, StepsTo, committing}
@@ -191,3 +196,17 @@ write_before honest h m old new index.PathConflict keeps of = of
 write_before honest h m old new (index.BadIndex place) keeps of = of
 write_before honest h m old new (index.WrongEntry at) keeps of = of
 write_before honest h m old new (index.Missing id) keeps of = of
+
+-- ---- what was printed
+
+-- a fault of printing, and the front that went out before it
+pub told_front : {T : Type 0} (r : Result T Failure) (P : Failure → Type 0) (A : Type 0) → IfErr r P → OnErr r A → IfErr r (λ e. P e × A)
+told_front (Ok x) P A fault front = tt
+told_front (Err e) P A fault front = (fault, front)
+
+-- ---- what a branch was
+
+-- one whose file can't be read has no value
+pub unread_branch : (content : FileMap) (name ref : List ℕ) (path : String Global) → ref ≡ branch_ref name → BlamesRef content ref (BadRefFile path) → None ≡ refs content (branch_ref name)
+unread_branch content name ref path is blames =
+    sym (bad_no_ref content (branch_ref name) (subst (λ (n : List ℕ). IsBadRef content (deciding_file content n)) is (subst (IsBadRef content) blames.0 blames.1)))

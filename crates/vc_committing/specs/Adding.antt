@@ -1,5 +1,5 @@
 -- What `add` does to a node: the files of the work tree that the words name are staged.
-use Rattle.std.specs.Prelude.{◌≡◌, ◌⊎◌, ◌++◌, ⊤, ℕ, Bool, false, not, ◌-◌, List, [], ◌∷◌, String, map, codes, string_bytes, None, unwrap_or}
+use Rattle.std.specs.Prelude.{◌≡◌, ◌⊎◌, ◌++◌, ⊤, ℕ, Bool, false, true, List, [], ◌∷◌, String, map, codes, string_bytes, None, unwrap_or}
 use Rattle.std.specs.FinMap.{get, insert}
 use Rattle.std.specs.Global.{Global}
 use Rattle.std.specs.List.{AllByRecursion, flat_map}
@@ -26,6 +26,8 @@ use Rattle.vc_values.proofs.GitLaws.{git_rules}
 use Rattle.vc_object_map.specs.Store.{IsDamaged, objects, with_objects}
 use Rattle.vc_object_map.specs.declared.faults.StoreFault.TheVariants as store
 use Rattle.vc_node.specs.Held.{Held}
+use Rattle.vc_local.specs.Blames.{BlamesOpen}
+use Rattle.vc_local.specs.Emptying.{IsOpened, LosesCarried}
 use Rattle.vc_local.specs.IndexFile.{index_bytes}
 use Rattle.vc_local.specs.Clean.{KeepsClean}
 use Rattle.vc_node.specs.Stored.{KeepsStored}
@@ -166,3 +168,28 @@ AddsInto content work own mode words old new = AddsFiles work own mode words old
 
 abbrev pub RefusesInto : {F : Type 0} → (F → FileMap) → FileMap → List ℕ → Mode → List (List ℕ) → Held F → Held F → Failure → Type 0
 RefusesInto content work own mode words old new e = RefusesAdd work own mode words old.is_up new.is_up (content old.files) (content new.files) e
+
+-- ---- of files that are opened first
+
+-- the files were opened as a clone's, and then the files that the words name were staged
+pub record AddsTo (work : FileMap) (own : List ℕ) (mode : Mode) (words : List (List ℕ)) (old new : FileMap) : Type 0 where
+  pub between : FileMap
+  pub opened : IsOpened old between
+  pub is_up : Bool
+  pub added : AddsFiles work own mode words true is_up between new
+
+-- they are no clone's, and stay but for what stood in quarantine
+abbrev pub IsOfOpening : FileMap → FileMap → Failure → Type 0
+IsOfOpening old new (Node fault) = BlamesOpen old fault × LosesCarried old new
+IsOfOpening old new _ = ⊥
+
+-- they were opened, and then this refused to stage
+pub record RefusesAddTo (work : FileMap) (own : List ℕ) (mode : Mode) (words : List (List ℕ)) (old new : FileMap) (e : Failure) : Type 0 where
+  pub between : FileMap
+  pub opened : IsOpened old between
+  pub is_up : Bool
+  pub refused : RefusesAdd work own mode words true is_up between new e
+
+-- why nothing is staged
+abbrev pub IsOfAdding : FileMap → (own : List ℕ) → Mode → List (List ℕ) → FileMap → FileMap → Failure → Type 0
+IsOfAdding work own mode words old new e = IsOfOpening old new e ⊎ RefusesAddTo work own mode words old new e

@@ -27,7 +27,7 @@ use Rattle.vc_rev.specs.declared.refusal.RevFault.TheVariants as revs
 use Rattle.vc_object_map.specs.Store.{objects, IsDamaged}
 use Rattle.vc_working.specs.CloneWords.{IsOfBranch, branch_ref}
 use Rattle.vc_cli.specs.Failure.{IsFault}
-use Rattle.vc_cli.specs.Printed.{id_line}
+use Rattle.vc_cli.specs.Printed.{AppendsFront, id_line}
 use Rattle.vc_cli.specs.Revisions.{Denoted, IsOfRevision}
 use Rattle.vc_cli.specs.declared.failure.Failure.{Failure}
 use Rattle.vc_cli.specs.declared.failure.Failure.TheVariants.{Node, Revision}
@@ -166,10 +166,10 @@ pub record CommitsOn (old : FileMap) (extra : List ObjectId) (author committer m
   pub made : MakesCommit old extra author committer message id new
   pub text : Appends before after (id_line id)
 
--- why no commit is told: none was made and nothing printed, or the commit was made and a fault kept its id from being printed
+-- why no commit is told: none was made and nothing printed, or the commit was made and a fault kept its id from being printed whole
 pub data IsOfCommitOn (old : FileMap) (extra : List ObjectId) (author committer message : List ℕ) (new : FileMap) (before after : Option (List ℕ)) (e : Failure) : Type 0 where
   of_making : IsOfMaking old extra author committer message new e → Keeps before after → IsOfCommitOn old extra author committer message new before after e
-  untold : (id : ObjectId) → IsFault e → MakesCommit old extra author committer message id new → IsOfCommitOn old extra author committer message new before after e
+  untold : (id : ObjectId) → IsFault e → MakesCommit old extra author committer message id new → AppendsFront before after (id_line id) → IsOfCommitOn old extra author committer message new before after e
 
 -- the same, with what revisions have as extra parents
 pub record CommitsIndex (old : FileMap) (revisions : List (List ℕ)) (author committer message : List ℕ) (new : FileMap) (before after : Option (List ℕ)) : Type 0 where

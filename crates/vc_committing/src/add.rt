@@ -8,7 +8,7 @@ ghost use Rattle.vc_index.specs.Path.{IsPath};
 ghost use Rattle.vc_object.specs.Object.{IsObject};
 ghost use Rattle.vc_checkout.specs.Steps.{IsUntouched};
 ghost use Rattle.vc_local.specs.Staging.{MayStandAll, file_placed};
-ghost use Rattle.vc_committing.specs.Adding.{AddsInto, AreBlobs, AreNamed, IsNamed, IsOfFile, IsOfStoring, RefusesFiles, RefusesInto, StoresInto, file_at, files_at};
+ghost use Rattle.vc_committing.specs.Adding.{AddsInto, AddsTo, AreBlobs, AreNamed, IsNamed, IsOfAdding, IsOfFile, IsOfStoring, RefusesFiles, RefusesInto, StoresInto, file_at, files_at};
 ghost use Rattle.vc_working.specs.Devices.{WritesEither};
 ghost use Rattle.vc_files.specs.Failures.{Wears};
 ghost use Rattle.vc_cli.specs.Failure.{TellsDevice};
@@ -151,4 +151,26 @@ pub fn add_all<F: Files, W: WorkTree>(
     let staged = store_files(alloc, node, work, mode.mode(), &paths)?;
     node.stage_all(&staged)?;
     Ok(())
+}
+
+/// Opens the files as a clone's, and stages the files of the work tree that the words name, as [`add_all`] does. The files are handed back.
+pub fn add_to<F: Files, W: WorkTree>(
+    alloc: Global,
+    files: F,
+    work: &mut W,
+    own: &[u8],
+    mode: FileMode,
+    words: &[&str],
+) -> (F, Result<(), Failure>)
+    ensures added { W.honest → F.honest → OnOk result.1 (AddsTo (W.content work.old) own.now (mode_of mode) (map (λ word. word.now) words.now) (F.content files) (F.content result.0)) }
+    ensures refused { W.honest → F.honest → IfErr result.1 (IsOfAdding (W.content work.old) own.now (mode_of mode) (map (λ word. word.now) words.now) (F.content files) (F.content result.0)) }
+    ensures untouched { IsUntouched W.content W.folders work.old work.new }
+    ensures wear { WritesEither W.failed W.can_fail W.left F.honest F.content F.failed F.can_fail F.left work.old work.new files result.0 (TellsDevice result.1) }
+{
+    let mut node = match CloneNode::open(alloc, files) {
+        Ok(node) => node,
+        Err((files, fault)) => return (files, Err(Failure::Node(fault))),
+    };
+    let done = add_all(alloc, &mut node, work, own, mode, words);
+    (node.close(), done)
 }

@@ -1,5 +1,5 @@
-//! The subcommands that work on a clone's index, branches and HEAD: each is one call of a node.
-ghost use Rattle.std.specs.Prelude.{◌≡◌, Some, Ok, IfSome, IfOk, IfErr, OnErr, OnOk, true, nat_eq, codes, map};
+//! What the subcommands on a clone's index, branches and HEAD do to its files: each is one call of a node.
+ghost use Rattle.std.specs.Prelude.{◌≡◌, ◌⊎◌, Ok, IfOk, IfErr, OnErr, OnOk, true, nat_eq, codes, map};
 ghost use Rattle.std.specs.List.{starts_with};
 ghost use Rattle.vc_files.specs.FileMap.{SameOutside};
 ghost use Rattle.vc_index.specs.Damage.{KeepsDamage};
@@ -9,16 +9,15 @@ ghost use Rattle.vc_refs.specs.Refs.{refs};
 ghost use Rattle.vc_working.specs.CloneWords.{IsOfBranch, branch_ref};
 ghost use Rattle.vc_cli.specs.Revisions.{Denoted};
 ghost use Rattle.vc_committing.specs.Steps.{AreDenoted, CommitsSaid, CommitsSaidOn, IsOfDeleting, IsOfRevisions, IsOfSaid, IsOfSaidOn, IsOfSetting, IsOfStep, IsOfTarget, IsOfTree, LeavesTrees, SetsBranch, StepsTo, WritesTree};
+ghost use Rattle.vc_committing.specs.Told.{IsOfReplacing, IsOfTaking};
 ghost use Rattle.vc_files.specs.Failures.{Wears, Writes};
-ghost use Rattle.vc_cli.specs.Failure.{TellsDevice, TellsOfFiles};
+ghost use Rattle.vc_cli.specs.Failure.{IsFault, TellsDevice, TellsOfFiles};
 
 use std::alloc::Global;
 use std::io::Write;
-use std::rt;
 use vc_arguments::Words;
-use vc_cli::{Failure, Faults, open_store, print_id, resolve};
+use vc_cli::{Failure, print_id, resolve};
 use vc_files::Files;
-use vc_folder::{FolderFiles, Syncs};
 use vc_local::NodeFault;
 use vc_node::CloneNode;
 use vc_object::ObjectId;
@@ -27,28 +26,6 @@ use vc_refs::{RefFault, Refs};
 use vc_repository::read_index;
 use vc_rev::RevFault;
 use vc_working::branch_of;
-
-/// The clone in this folder, which is made where there is none.
-pub fn open_clone<R>(rt: &R, store: &str) -> Result<CloneNode<FolderFiles<R>>, Failure>
-where
-    R: rt::Files + Syncs<R::File> + AllocGlobal + Clone + Drop,
-{
-    let files = open_store(rt, store)?;
-    match CloneNode::open(rt.alloc(), files) {
-        Ok(node) => Ok(node),
-        Err((_, fault)) => Err(Failure::Node(fault)),
-    }
-}
-
-/// Takes a path out of the index of the store in this folder.
-pub fn unstage<R>(rt: &R, store: &str, path: &str) -> Result<(), Failure>
-where
-    R: rt::Files + Syncs<R::File> + AllocGlobal + Clone + Drop,
-{
-    let files = open_store(rt, store)?;
-    let (_files, done) = unstage_path(rt.alloc(), files, path.as_bytes());
-    done
-}
 
 /// Takes a path out of the index. Where nothing stands, nothing changes. The files are handed back.
 pub fn unstage_path<F: Files>(alloc: Global, files: F, path: &[u8]) -> (F, Result<(), Failure>)
@@ -64,18 +41,6 @@ pub fn unstage_path<F: Files>(alloc: Global, files: F, path: &[u8]) -> (F, Resul
         Ok(()) => (node.close(), Ok(())),
         Err(fault) => (node.close(), Err(Failure::Node(fault))),
     }
-}
-
-/// Stores the trees of the index, and prints the name of the root's when they are durable.
-pub fn write_tree<R, O>(rt: &R, store: &str, output: &mut O) -> Result<(), Failure>
-where
-    R: rt::Files + Syncs<R::File> + AllocGlobal + Clone + Drop,
-    O: Write,
-{
-    let mut files = open_store(rt, store)?;
-    let id = write_index(rt.alloc(), &mut files)?;
-    files.sync(rt.alloc())?;
-    print_id(&id, output)
 }
 
 /// Stores the trees of the index, and answers the name of the root's.
@@ -95,23 +60,6 @@ pub fn write_index<F: Files>(alloc: Global, files: &mut F) -> Result<ObjectId, F
         Ok(id) => Ok(id),
         Err(fault) => Err(Failure::Node(NodeFault::from(fault))),
     }
-}
-
-/// Commits the index of the store in this folder.
-pub fn commit<R, O>(
-    rt: &R,
-    store: &str,
-    words: Words<'_>,
-    revisions: &[&str],
-    output: &mut O,
-) -> Result<(), Failure>
-where
-    R: rt::Files + Syncs<R::File> + AllocGlobal + Clone + Drop,
-    O: Write,
-{
-    let files = open_store(rt, store)?;
-    let (_files, done) = commit_index(rt.alloc(), files, words, revisions, output);
-    done
 }
 
 /// Commits the index, with what these revisions name as extra parents, and prints the name of the commit. The files are
@@ -180,28 +128,6 @@ fn parents_named<F: Files>(
     Ok(parents)
 }
 
-/// Sets a branch of the store in this folder. A person is told what it was.
-pub fn branch<R, E>(
-    rt: &R,
-    store: &str,
-    name: &str,
-    revision: &str,
-    faults: &mut Faults<E>,
-) -> Result<(), Failure>
-where
-    R: rt::Files + Syncs<R::File> + AllocGlobal + Clone + Drop,
-    E: Write,
-{
-    let mut files = open_store(rt, store)?;
-    let was = branch_value(rt.alloc(), &mut files, name)?;
-    let (_files, done) = set_branch(rt.alloc(), files, name, revision);
-    done?;
-    match was {
-        Some(id) => faults.tell_old_branch(name, &id),
-        None => Ok(()),
-    }
-}
-
 /// Sets a branch to the commit that a revision names, whatever it was: a name that no branch may have is refused before a
 /// revision without a value. The files are handed back, and where the branch isn't set, they are as they were, or as opening
 /// leaves them.
@@ -263,27 +189,6 @@ fn set_branch_to<F: Files>(
     }
 }
 
-/// Removes a branch of the store in this folder. A person is told what it was.
-pub fn branch_delete<R, E>(
-    rt: &R,
-    store: &str,
-    name: &str,
-    faults: &mut Faults<E>,
-) -> Result<(), Failure>
-where
-    R: rt::Files + Syncs<R::File> + AllocGlobal + Clone + Drop,
-    E: Write,
-{
-    let mut files = open_store(rt, store)?;
-    let was = branch_value(rt.alloc(), &mut files, name)?;
-    let (_files, done) = delete_branch(rt.alloc(), files, name);
-    done?;
-    match was {
-        Some(id) => faults.tell_old_branch(name, &id),
-        None => Ok(()),
-    }
-}
-
 /// Removes a branch. Where there is none, nothing changes. The files are handed back.
 pub fn delete_branch<F: Files>(alloc: Global, files: F, name: &str) -> (F, Result<(), Failure>)
     ensures deleted { F.honest → OnOk result.1 (StepsTo (DeleteBranch (branch_ref name.now)) (Ok tt) (F.content files) (F.content result.0)) }
@@ -304,20 +209,72 @@ pub fn delete_branch<F: Files>(alloc: Global, files: F, name: &str) -> (F, Resul
     }
 }
 
-// What a branch is now, to be told later. A file of the branch that can't be read is told when the branch is set.
+// What a branch is now, to be told later. One that has a file that can't be read has no value.
 fn branch_value<F: Files>(
     alloc: Global,
     files: &mut F,
     name: &str,
 ) -> Result<Option<ObjectId>, Failure>
-    ensures value { F.honest → IfOk result (λ found. IfSome found (λ id. refs (F.content files.old) (branch_ref name.now) ≡ Some id)) }
+    ensures value { F.honest → IfOk result (λ found. found ≡ refs (F.content files.old) (branch_ref name.now)) }
+    ensures refused { IfErr result (λ e. IsOfBranch name.now e ⊎ IsFault e) }
     ensures same { F.content files.new ≡ F.content files.old }
     ensures wear { Wears F.failed F.can_fail F.left files.old files.new (TellsDevice result) }
 {
     let full_name = branch_of(alloc, name)?;
-    match Refs::new(alloc, files).get(&full_name) {
-        Ok(found) => Ok(found),
-        Err(RefFault::Fault(fault)) => Err(Failure::Fault(fault)),
-        Err(_) => Ok(None),
+    let fault = match Refs::new(alloc, files).get(&full_name) {
+        Ok(found) => return Ok(found),
+        Err(fault) => fault,
+    };
+    match fault {
+        RefFault::Fault(fault) => Err(Failure::Fault(fault)),
+        RefFault::BadRefFile(_) => Ok(None),
+        RefFault::Stale(_) => Ok(None),
+        RefFault::Conflict(_) => Ok(None),
+        RefFault::HeadLoop => Ok(None),
+    }
+}
+
+/// Sets a branch as [`set_branch`] does, and returns what it was. The files are handed back.
+pub fn replace_branch<F: Files>(
+    alloc: Global,
+    mut files: F,
+    name: &str,
+    revision: &str,
+) -> (F, Result<Option<ObjectId>, Failure>)
+    ensures set { F.honest → OnOk result.1 (SetsBranch (F.content files) name.now revision.now (F.content result.0)) }
+    ensures was { F.honest → IfOk result.1 (λ was. was ≡ refs (F.content files) (branch_ref name.now)) }
+    ensures refused { F.honest → IfErr result.1 (IsOfReplacing (F.content files) name.now revision.now (F.content result.0)) }
+    ensures wear { Writes F.honest F.content F.failed F.can_fail F.left files result.0 (TellsDevice result.1) }
+{
+    let was = match branch_value(alloc, &mut files, name) {
+        Ok(was) => was,
+        Err(failure) => return (files, Err(failure)),
+    };
+    let (files, done) = set_branch(alloc, files, name, revision);
+    match done {
+        Ok(()) => (files, Ok(was)),
+        Err(failure) => (files, Err(failure)),
+    }
+}
+
+/// Removes a branch as [`delete_branch`] does, and returns what it was. The files are handed back.
+pub fn take_branch<F: Files>(
+    alloc: Global,
+    mut files: F,
+    name: &str,
+) -> (F, Result<Option<ObjectId>, Failure>)
+    ensures taken { F.honest → OnOk result.1 (StepsTo (DeleteBranch (branch_ref name.now)) (Ok tt) (F.content files) (F.content result.0)) }
+    ensures was { F.honest → IfOk result.1 (λ was. was ≡ refs (F.content files) (branch_ref name.now)) }
+    ensures refused { F.honest → IfErr result.1 (IsOfTaking name.now (F.content files) (F.content result.0)) }
+    ensures wear { Writes F.honest F.content F.failed F.can_fail F.left files result.0 (TellsDevice result.1) }
+{
+    let was = match branch_value(alloc, &mut files, name) {
+        Ok(was) => was,
+        Err(failure) => return (files, Err(failure)),
+    };
+    let (files, done) = delete_branch(alloc, files, name);
+    match done {
+        Ok(()) => (files, Ok(was)),
+        Err(failure) => (files, Err(failure)),
     }
 }

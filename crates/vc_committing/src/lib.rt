@@ -4,5 +4,6 @@
 mod add;
 pub mod adding;
 mod clone;
+mod commands;
 
-pub use clone::{branch, branch_delete, commit, unstage, write_tree};
+pub use commands::{branch, branch_delete, commit, unstage, write_tree};

@@ -1,3 +1,4 @@
 pub mod BodyLemmas
 pub mod GoingLemmas
 pub mod PieceLemmas
+pub mod PruneLemmas

@@ -1,5 +1,6 @@
 pub mod Again
 pub mod AtFault
+pub mod Bodies
 pub mod HashObject
 pub mod Pruned
 pub mod Shown

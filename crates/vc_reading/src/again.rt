@@ -1,14 +1,13 @@
 //! Which word of a command line was refused. It is asked for on a terminal alone: what a revision has is looked up again.
-ghost use Rattle.std.specs.Prelude.{◌≡◌, IfSome};
+ghost use Rattle.std.specs.Prelude.{◌≡◌, IfOk, IfSome};
+ghost use Rattle.vc_cli.specs.Stores.{StoresStay};
 ghost use Rattle.vc_reading.specs.Again.{IsRefusedRevision, IsRefusedTerms};
 
 use crate::at_fault::{at_line, named_by};
 use std::alloc::Global;
-use std::rt;
 use vc_arguments::{LocalTask, Task};
-use vc_cli::{Failure, open_store, resolve, select};
+use vc_cli::{Failure, Stores, resolve, select};
 use vc_files::Files;
-use vc_folder::Syncs;
 
 /// The words of a command line of which there may be many.
 #[derive(Clone, Copy)]
@@ -23,55 +22,47 @@ pub struct Lists<'a> {
 }
 
 /// The line of what a refusal is about: what it names itself, else the word of the command line that was refused, if there is one.
-pub fn line_of_refusal<R>(
-    rt: &R,
+pub fn line_of_refusal<S: Stores>(
+    alloc: Global,
+    stores: &mut S,
     store: &str,
     task: Task<'_>,
     lists: Lists<'_>,
     failure: &Failure,
 ) -> Result<Option<Vec<u8>>, Failure>
-where
-    R: rt::Files + Syncs<R::File> + AllocGlobal + Clone + Drop,
+    ensures same { StoresStay (S.content stores.old) (S.content stores.new) }
 {
     if failure.status() != 1 {
         return Ok(None);
     }
-    if let Some(place) = named_by(rt.alloc(), failure)? {
-        return Ok(Some(at_line(rt.alloc(), &place)?));
+    if let Some(place) = named_by(alloc, failure)? {
+        return Ok(Some(at_line(alloc, &place)?));
     }
-    match word_of(rt, store, task, lists, failure)? {
-        Some(word) => Ok(Some(at_line(rt.alloc(), word)?)),
+    match word_of(alloc, stores, store, task, lists, failure)? {
+        Some(word) => Ok(Some(at_line(alloc, word)?)),
         None => Ok(None),
     }
 }
 
 // The word of the command line that was refused, if it was a word.
-fn word_of<'a, R>(
-    rt: &R,
+fn word_of<'a, S: Stores>(
+    alloc: Global,
+    stores: &mut S,
     store: &str,
     task: Task<'a>,
     lists: Lists<'a>,
     failure: &Failure,
 ) -> Result<Option<&'a [u8]>, Failure>
-where
-    R: rt::Files + Syncs<R::File> + AllocGlobal + Clone + Drop,
+    ensures same { StoresStay (S.content stores.old) (S.content stores.new) }
 {
-    let alloc = rt.alloc();
     match task {
-        Task::MergeBase { first, second } => {
-            let mut files = open_store(rt, store)?;
-            Ok(refused_revision(alloc, &mut files, &[first, second]))
-        }
-        Task::RevList => {
-            let mut files = open_store(rt, store)?;
-            Ok(refused_term(alloc, &mut files, lists.terms))
-        }
+        Task::MergeBase { first, second } => { revision_in(alloc, stores, store, &[first, second]) }
+        Task::RevList => term_in(alloc, stores, store, lists.terms),
         Task::Local(LocalTask::Commit(words)) => {
             if let Failure::Node(_) = failure {
                 return Ok(long_name(words.author, words.committer));
             }
-            let mut files = open_store(rt, store)?;
-            Ok(refused_revision(alloc, &mut files, lists.parents))
+            revision_in(alloc, stores, store, lists.parents)
         }
         Task::HashObject { file, .. } => match file {
             Some(path) => Ok(Some(path.as_bytes())),
@@ -88,6 +79,38 @@ where
         Task::ShowRef => Ok(None),
         Task::Prune { .. } => Ok(None),
     }
+}
+
+// The first of the revisions that has no value in this store.
+fn revision_in<'a, S: Stores>(
+    alloc: Global,
+    stores: &mut S,
+    store: &str,
+    revisions: &[&'a str],
+) -> Result<Option<&'a [u8]>, Failure>
+    ensures refused { S.Files.honest → IfOk result (λ found. IfSome found (λ word. IsRefusedRevision (S.content stores.old store.now) word.now)) }
+    ensures same { StoresStay (S.content stores.old) (S.content stores.new) }
+{
+    let mut files = stores.open(store)?;
+    let word = refused_revision(alloc, &mut files, revisions);
+    stores.close(store, files);
+    Ok(word)
+}
+
+// The first of the terms that selects nothing in this store because it is refused.
+fn term_in<'a, S: Stores>(
+    alloc: Global,
+    stores: &mut S,
+    store: &str,
+    terms: &'a str,
+) -> Result<Option<&'a [u8]>, Failure>
+    ensures refused { S.Files.honest → IfOk result (λ found. IfSome found (λ word. IsRefusedTerms (S.content stores.old store.now) word.now)) }
+    ensures same { StoresStay (S.content stores.old) (S.content stores.new) }
+{
+    let mut files = stores.open(store)?;
+    let word = refused_term(alloc, &mut files, terms);
+    stores.close(store, files);
+    Ok(word)
 }
 
 // Of an author and a committer the first that has more than one line.

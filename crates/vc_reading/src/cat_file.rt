@@ -1,37 +1,58 @@
 //! The subcommand `cat-file`: what a store has under a name.
-ghost use Rattle.std.specs.Prelude.{◌≡◌, ◌⊎◌, IsSome, IfSome, IfErr, OnOk};
+ghost use Rattle.std.specs.Prelude.{◌≡◌, ◌⊎◌, IfErr, OnErr, OnOk};
 ghost use Rattle.std.specs.Io.KnownBytes.{Appends, Keeps};
 ghost use Rattle.vc_object.specs.Decoding.{stored_object};
-ghost use Rattle.vc_object_map.specs.Store.{objects};
 ghost use Rattle.vc_cli.specs.Failure.{IsFault, TellsOfFiles};
-ghost use Rattle.vc_reading.specs.Shown.{part_text, IsOfLook};
+ghost use Rattle.vc_cli.specs.Printed.{AppendsFront, PrintsFront};
+ghost use Rattle.vc_cli.specs.Stores.{OrUnopened, StoresStay};
+ghost use Rattle.vc_reading.specs.Shown.{part_text, IsOfLook, IsOfNamed, PrintsNamed, PrintsObject};
 ghost use Rattle.vc_files.specs.Failures.{Wears};
 
 use std::alloc::Global;
 use std::io::Write;
-use std::rt;
 use vc_arguments::Part;
-use vc_cli::{Failure, open_store, print_text, resolve};
+use vc_cli::{Failure, Stores, print_text, resolve};
 use vc_files::Files;
-use vc_folder::Syncs;
 use vc_object::ObjectId;
 use vc_store::{Store, Stored};
 
-/// Prints one part of the object that the revision names.
-pub fn cat_file<R, O>(
-    rt: &R,
+/// Prints one part of the object that the revision names in this store.
+pub fn cat_file<S: Stores, O: Write>(
+    alloc: Global,
+    stores: &mut S,
     store: &str,
     part: Part,
     revision: &str,
     output: &mut O,
 ) -> Result<(), Failure>
-where
-    R: rt::Files + Syncs<R::File> + AllocGlobal + Clone + Drop,
-    O: Write,
+    ensures printed { S.Files.honest → OnOk result (PrintsNamed (S.content stores.old store.now) revision.now part (Appends (O.contents output.old) (O.contents output.new))) }
+    ensures refused { S.Files.honest → IfErr result (OrUnopened (IsOfNamed (S.content stores.old store.now) revision.now)) }
+    ensures nothing_printed { IfErr result (λ e. IsFault e ⊎ Keeps (O.contents output.old) (O.contents output.new)) }
+    ensures front { S.Files.honest → OnErr result (PrintsFront (PrintsNamed (S.content stores.old store.now) revision.now part) (O.contents output.old) (O.contents output.new)) }
+    ensures same { StoresStay (S.content stores.old) (S.content stores.new) }
 {
-    let mut files = open_store(rt, store)?;
-    let id = resolve(rt.alloc(), &mut files, revision)?;
-    print_object(rt.alloc(), &mut files, &id, part, output)
+    let mut files = stores.open(store)?;
+    let printed = print_named(alloc, &mut files, revision, part, output);
+    stores.close(store, files);
+    printed
+}
+
+/// Prints one part of the object that the revision names.
+pub fn print_named<F: Files, O: Write>(
+    alloc: Global,
+    files: &mut F,
+    revision: &str,
+    part: Part,
+    output: &mut O,
+) -> Result<(), Failure>
+    ensures printed { F.honest → OnOk result (PrintsNamed (F.content files.old) revision.now part (Appends (O.contents output.old) (O.contents output.new))) }
+    ensures refused { F.honest → IfErr result (IsOfNamed (F.content files.old) revision.now) }
+    ensures nothing_printed { IfErr result (λ e. IsFault e ⊎ Keeps (O.contents output.old) (O.contents output.new)) }
+    ensures front { F.honest → OnErr result (PrintsFront (PrintsNamed (F.content files.old) revision.now part) (O.contents output.old) (O.contents output.new)) }
+    ensures same { F.content files.new ≡ F.content files.old }
+{
+    let id = resolve(alloc, files, revision)?;
+    print_object(alloc, files, &id, part, output)
 }
 
 /// Prints one part of the object with this name: its kind or its size with LF, or its body as it is. Of an object
@@ -43,10 +64,10 @@ pub fn print_object<F: Files, O: Write>(
     part: Part,
     output: &mut O,
 ) -> Result<(), Failure>
-    ensures there { F.honest → OnOk result (IsSome (objects (F.content files.old) id.now)) }
-    ensures printed { F.honest → OnOk result (IfSome (objects (F.content files.old) id.now) (λ object. Appends (O.contents output.old) (O.contents output.new) (part_text part object))) }
+    ensures printed { F.honest → OnOk result (PrintsObject (F.content files.old) id.now part (Appends (O.contents output.old) (O.contents output.new))) }
     ensures refused { F.honest → IfErr result (IsOfLook (F.content files.old) id.now) }
     ensures nothing_printed { IfErr result (λ e. IsFault e ⊎ Keeps (O.contents output.old) (O.contents output.new)) }
+    ensures front { F.honest → OnErr result (PrintsFront (PrintsObject (F.content files.old) id.now part) (O.contents output.old) (O.contents output.new)) }
     ensures same { F.content files.new ≡ F.content files.old }
     ensures wear { Wears F.failed F.can_fail F.left files.old files.new (TellsOfFiles result) }
 {
@@ -64,6 +85,7 @@ fn print_part<O: Write>(
     output: &mut O,
 ) -> Result<(), Failure>
     ensures printed { OnOk result (Appends (O.contents output.old) (O.contents output.new) (part_text part (stored_object object.now.kind object.now.body.items))) }
+    ensures front { OnErr result (AppendsFront (O.contents output.old) (O.contents output.new) (part_text part (stored_object object.now.kind object.now.body.items))) }
     ensures fault { IfErr result IsFault }
 {
     match part {

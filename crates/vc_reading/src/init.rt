@@ -6,25 +6,31 @@ ghost use Rattle.vc_reading.specs.Shown.{IsOfHead};
 ghost use Rattle.vc_refs.specs.declared.heads.Head.TheVariants as head;
 ghost use Rattle.vc_files.specs.Failures.{Writes};
 ghost use Rattle.vc_cli.specs.Failure.{TellsDevice};
+ghost use Rattle.vc_cli.specs.Stores.{OrUnopened, OthersStay};
 
 use std::alloc::Global;
-use std::rt;
-use vc_cli::{Failure, open_store};
+use vc_cli::{Failure, Stores};
 use vc_files::{Fault, Files};
-use vc_folder::Syncs;
 use vc_refname::{NewNameError, RefName};
 use vc_refs::{Head, Refs};
 
 /// The branch that HEAD names in a new store.
 const FIRST_BRANCH: &str = "refs/heads/main";
 
-/// Makes the store in this folder, where there is none.
-pub fn init<R>(rt: &R, store: &str) -> Result<(), Failure>
-where
-    R: rt::Files + Syncs<R::File> + AllocGlobal + Clone + Drop,
+/// Makes the store of this lock, if there is none.
+pub fn init<S: Stores>(alloc: Global, stores: &mut S, lock: &S::Lock) -> Result<(), Failure>
+    ensures made { S.Files.honest → OnOk result (head_of (S.content stores.old (S.of lock.now)) ≡ None → head_of (S.content stores.new (S.of lock.now)) ≡ Some (head.Branch (codes "refs/heads/main"))) }
+    ensures stays { S.Files.honest → IsSome (head_of (S.content stores.old (S.of lock.now))) → S.content stores.new (S.of lock.now) ≡ S.content stores.old (S.of lock.now) }
+    ensures refs { S.Files.honest → refs (S.content stores.new (S.of lock.now)) ≡ refs (S.content stores.old (S.of lock.now)) }
+    ensures only { S.Files.honest → ChangesOnly (codes "HEAD") (S.content stores.old (S.of lock.now)) (S.content stores.new (S.of lock.now)) }
+    ensures refused { S.Files.honest → IfErr result (OrUnopened (IsOfHead (S.content stores.old (S.of lock.now)))) }
+    ensures err { S.Files.honest → OnErr result (S.content stores.new (S.of lock.now) ≡ S.content stores.old (S.of lock.now)) }
+    ensures others { OthersStay (S.of lock.now) (S.content stores.old) (S.content stores.new) }
 {
-    let mut files = open_store(rt, store)?;
-    make_head(rt.alloc(), &mut files)
+    let mut files = stores.open_locked(lock)?;
+    let made = make_head(alloc, &mut files);
+    stores.close_locked(lock, files);
+    made
 }
 
 /// Makes HEAD name the first branch where there is no HEAD. One that is there stays as it is, and nothing is written.

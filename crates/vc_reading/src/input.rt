@@ -2,6 +2,7 @@
 ghost use Rattle.std.specs.Prelude.{◌≡◌, take, IfOk, IfSome, IfErr};
 ghost use Rattle.vc_object.specs.Object.{oversize};
 ghost use Rattle.vc_cli.specs.Failure.{IsFault};
+ghost use Rattle.vc_reading.specs.Bodies.{IsUnread};
 
 use std::alloc::Global;
 use std::fs::{self, OpenFile};
@@ -51,7 +52,9 @@ fn read_front<I: Read + Drop>(
 
 /// Opens a file for its body. One that is missing, that may not be read, or that is a folder is no such path. The
 /// length is known of a regular file that isn't empty: what the system makes as it is read has length 0.
-pub fn open_body<R: rt::Files>(rt: &R, path: &str) -> Result<Input<R::File>, Failure> {
+pub fn open_body<R: rt::Files>(rt: &R, path: &str) -> Result<Input<R::File>, Failure>
+    ensures unread { IfErr result IsUnread }
+{
     let stream = match fs::open(rt, path) {
         Ok(stream) => stream,
         Err(error) => return Err(unreadable(&error)),
@@ -76,7 +79,9 @@ pub fn known_length(is_file: bool, length: u64, place: u64) -> Option<usize> {
 }
 
 // Why a file can't be read: nothing that may be read stands there, or it is a fault.
-fn unreadable(error: &io::Error) -> Failure {
+fn unreadable(error: &io::Error) -> Failure
+    ensures { IsUnread result }
+{
     match error.kind() {
         ErrorKind::NotFound | ErrorKind::NotADirectory | ErrorKind::IsADirectory => {
             Failure::NoSuchPath

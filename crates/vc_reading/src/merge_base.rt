@@ -1,38 +1,60 @@
 //! The subcommand `merge-base`: the best common ancestors of two commits.
-ghost use Rattle.std.specs.Prelude.{◌≡◌, ◌⊎◌, IfOk, IfErr};
-ghost use Rattle.std.specs.Io.KnownBytes.{Keeps};
+ghost use Rattle.std.specs.Prelude.{◌≡◌, ◌⊎◌, IfOk, IfErr, OnErr};
+ghost use Rattle.std.specs.Io.KnownBytes.{Appends, Keeps};
 ghost use Rattle.vc_object_map.specs.Store.{objects};
 ghost use Rattle.vc_cli.specs.Failure.{IsFault, TellsOfFiles};
-ghost use Rattle.vc_reading.specs.Shown.{IsOfBases, PrintsBases};
+ghost use Rattle.vc_cli.specs.Printed.{PrintsFront};
+ghost use Rattle.vc_cli.specs.Stores.{OrUnopened, StoresStay};
+ghost use Rattle.vc_reading.specs.Shown.{IsOfBases, IsOfCommon, PrintsBases, PrintsCommon, SomeBases, SomeCommon};
 ghost use Rattle.vc_files.specs.Failures.{Wears};
 
 use std::alloc::Global;
 use std::io::Write;
-use std::rt;
-use vc_cli::{Failure, id_lines, open_store, print_text, resolve};
+use vc_cli::{Failure, Stores, id_lines, print_text, resolve};
 use vc_files::Files;
-use vc_folder::Syncs;
 use vc_history::Generations;
 use vc_object::ObjectId;
 use vc_selection::merge_bases;
 use vc_store::Store;
 
-/// Prints the best common ancestors of the commits that two revisions name.
-pub fn merge_base<R, O>(
-    rt: &R,
+/// Prints the best common ancestors of the commits that two revisions name in this store, and tells whether there is one.
+pub fn merge_base<S: Stores, O: Write>(
+    alloc: Global,
+    stores: &mut S,
     store: &str,
     first: &str,
     second: &str,
     output: &mut O,
 ) -> Result<bool, Failure>
-where
-    R: rt::Files + Syncs<R::File> + AllocGlobal + Clone + Drop,
-    O: Write,
+    ensures printed { S.Files.honest → IfOk result (λ some. PrintsCommon (S.content stores.old store.now) first.now second.now some (Appends (O.contents output.old) (O.contents output.new))) }
+    ensures refused { S.Files.honest → IfErr result (OrUnopened (IsOfCommon (S.content stores.old store.now) first.now second.now)) }
+    ensures nothing_printed { IfErr result (λ e. IsFault e ⊎ Keeps (O.contents output.old) (O.contents output.new)) }
+    ensures front { S.Files.honest → OnErr result (PrintsFront (SomeCommon (S.content stores.old store.now) first.now second.now) (O.contents output.old) (O.contents output.new)) }
+    ensures same { StoresStay (S.content stores.old) (S.content stores.new) }
 {
-    let mut files = open_store(rt, store)?;
-    let first = resolve(rt.alloc(), &mut files, first)?;
-    let second = resolve(rt.alloc(), &mut files, second)?;
-    print_bases(rt.alloc(), &mut files, &first, &second, output)
+    let mut files = stores.open(store)?;
+    let printed = print_common(alloc, &mut files, first, second, output);
+    stores.close(store, files);
+    printed
+}
+
+/// Prints the best common ancestors of the commits that two revisions name, and tells whether there is one.
+pub fn print_common<F: Files, O: Write>(
+    alloc: Global,
+    files: &mut F,
+    first: &str,
+    second: &str,
+    output: &mut O,
+) -> Result<bool, Failure>
+    ensures printed { F.honest → IfOk result (λ some. PrintsCommon (F.content files.old) first.now second.now some (Appends (O.contents output.old) (O.contents output.new))) }
+    ensures refused { F.honest → IfErr result (IsOfCommon (F.content files.old) first.now second.now) }
+    ensures nothing_printed { IfErr result (λ e. IsFault e ⊎ Keeps (O.contents output.old) (O.contents output.new)) }
+    ensures front { F.honest → OnErr result (PrintsFront (SomeCommon (F.content files.old) first.now second.now) (O.contents output.old) (O.contents output.new)) }
+    ensures same { F.content files.new ≡ F.content files.old }
+{
+    let a = resolve(alloc, files, first)?;
+    let b = resolve(alloc, files, second)?;
+    print_bases(alloc, files, &a, &b, output)
 }
 
 /// Prints the best common ancestors by name, one a line, and tells whether there is one.
@@ -43,9 +65,10 @@ pub fn print_bases<F: Files, O: Write>(
     second: &ObjectId,
     output: &mut O,
 ) -> Result<bool, Failure>
-    ensures printed { F.honest → IfOk result (PrintsBases (objects (F.content files.old)) first.now second.now (O.contents output.old) (O.contents output.new)) }
+    ensures printed { F.honest → IfOk result (λ some. PrintsBases (objects (F.content files.old)) first.now second.now some (Appends (O.contents output.old) (O.contents output.new))) }
     ensures refused { F.honest → IfErr result (IsOfBases (F.content files.old) first.now second.now) }
     ensures nothing_printed { IfErr result (λ e. IsFault e ⊎ Keeps (O.contents output.old) (O.contents output.new)) }
+    ensures front { F.honest → OnErr result (PrintsFront (SomeBases (objects (F.content files.old)) first.now second.now) (O.contents output.old) (O.contents output.new)) }
     ensures same { F.content files.new ≡ F.content files.old }
     ensures wear { Wears F.failed F.can_fail F.left files.old files.new (TellsOfFiles result) }
 {

@@ -6,21 +6,25 @@ ghost use Rattle.vc_refs.specs.Refs.{refs};
 ghost use Rattle.vc_reading.specs.Shown.{IsOfPacking};
 ghost use Rattle.vc_files.specs.Failures.{Writes};
 ghost use Rattle.vc_cli.specs.Failure.{TellsDevice};
+ghost use Rattle.vc_cli.specs.Stores.{OrUnopened, OthersStay};
 
 use std::alloc::Global;
-use std::rt;
-use vc_cli::{Failure, open_store};
+use vc_cli::{Failure, Stores};
 use vc_files::Files;
-use vc_folder::Syncs;
 use vc_refs::Refs;
 
-/// Puts the refs of the store in this folder into one file.
-pub fn pack_refs<R>(rt: &R, store: &str) -> Result<(), Failure>
-where
-    R: rt::Files + Syncs<R::File> + AllocGlobal + Clone + Drop,
+/// Puts the refs of the store of this lock into one file.
+pub fn pack_refs<S: Stores>(alloc: Global, stores: &mut S, lock: &S::Lock) -> Result<(), Failure>
+    ensures packed { S.Files.honest → OnOk result (IsPackedFrom (S.content stores.old (S.of lock.now)) (S.content stores.new (S.of lock.now))) }
+    ensures refused { S.Files.honest → IfErr result (OrUnopened (IsOfPacking (S.content stores.old (S.of lock.now)))) }
+    ensures kept { S.Files.honest → refs (S.content stores.new (S.of lock.now)) ≡ refs (S.content stores.old (S.of lock.now)) }
+    ensures rest { S.Files.honest → KeepsOutside (S.content stores.old (S.of lock.now)) (S.content stores.new (S.of lock.now)) }
+    ensures others { OthersStay (S.of lock.now) (S.content stores.old) (S.content stores.new) }
 {
-    let mut files = open_store(rt, store)?;
-    pack_in(rt.alloc(), &mut files)
+    let mut files = stores.open_locked(lock)?;
+    let packed = pack_in(alloc, &mut files);
+    stores.close_locked(lock, files);
+    packed
 }
 
 /// Puts the refs of these files into one file. None of them changes, wherever it stops, and neither does any other file.

@@ -1,8 +1,10 @@
 //! The subcommand `prune`: the objects that nothing needs are removed, or listed.
-ghost use Rattle.std.specs.Prelude.{◌≡◌, ◌⊎◌, ◌++◌, Contains, IfErr, IfOk, IsErrOf, OnOk};
+ghost use Rattle.std.specs.Prelude.{◌≡◌, ◌⊎◌, ◌++◌, Contains, IfErr, IfOk, IsErrOf, OnErr, OnOk};
 ghost use Rattle.std.specs.List.{flat_map};
 ghost use Rattle.std.specs.Io.KnownBytes.{Appends, Keeps};
 ghost use Rattle.vc_cli.specs.Failure.{IsFault, TellsDevice, TellsOfFiles};
+ghost use Rattle.vc_cli.specs.Printed.{AppendsFront, PrintsFront};
+ghost use Rattle.vc_cli.specs.Stores.{OrUnopened, OthersStay, StoresStay};
 ghost use Rattle.vc_files.specs.Failures.{Wears, Writes};
 ghost use Rattle.vc_model.specs.Clone.{IsReached};
 ghost use Rattle.vc_object.specs.ObjectId.{IsSortedByName};
@@ -11,16 +13,13 @@ ghost use Rattle.vc_object_map.specs.StoreFault.{IsMet};
 ghost use Rattle.vc_pruning.specs.Pruning.{Prunes, PrunesSome};
 ghost use Rattle.vc_pruning.specs.Roots.{AreWhole, IsReadable};
 ghost use Rattle.vc_rules.specs.Git.{git};
-ghost use Rattle.vc_reading.specs.Pruned.{EndsPrune, IsOfPrune, PrintsGoing, going_line, object_line, pruned_line};
+ghost use Rattle.vc_reading.specs.Pruned.{EndsPrune, EndsUntold, IsOfPrune, LeavesPruned, PrintsCount, PrintsGoing, PrintsPruned, RefusesPrune, going_line, object_line, pruned_line};
 
 use crate::tally::{Counted, Tally};
 use std::alloc::{AllocError, Global};
-use std::fs::File;
-use std::io::Write;
-use std::rt;
-use vc_cli::{Failure, Faults, only_remover, open_store, print_text};
+use std::io::{self, Write};
+use vc_cli::{Failure, Faults, Stores, print_text};
 use vc_files::{Fault, Files};
-use vc_folder::Syncs;
 use vc_local::NodeFault;
 use vc_object::{Kind, ObjectId};
 use vc_object_map::StoreFault;
@@ -28,38 +27,68 @@ use vc_pack::is_among;
 use vc_pruning::needed;
 use vc_store::{find, names};
 
-/// Removes each object of the store in this folder that no ref, HEAD or file of the index reaches, and prints how many these were. A
+/// Removes each object of the store of this lock that no ref, HEAD or file of the index reaches, and prints how many these were. A
 /// person is told meanwhile how far it is. It is refused while another process stands on objects that nothing names yet. What could
 /// not be told on a terminal is a fault after the answer.
-pub fn prune<R, O, E>(
-    rt: &R,
-    store: &str,
+pub fn prune<S: Stores, O: Write, E: Write>(
+    alloc: Global,
+    stores: &mut S,
+    lock: &S::Lock,
     output: &mut O,
     faults: &mut Faults<E>,
 ) -> Result<(), Failure>
-where
-    R: rt::Files<File = File> + Syncs<File> + AllocGlobal + Clone + Drop,
-    O: Write,
-    E: Write,
+    ensures pruned { S.Files.honest → OnOk result (PrintsPruned (S.content stores.old (S.of lock.now)) (S.content stores.new (S.of lock.now)) (O.contents output.old) (O.contents output.new)) }
+    ensures some { S.Files.honest → (S.content stores.new (S.of lock.now) ≡ S.content stores.old (S.of lock.now)) ⊎ PrunesSome (IsReached git) (S.content stores.old (S.of lock.now)) (S.content stores.new (S.of lock.now)) }
+    ensures refused { S.Files.honest → IfErr result (RefusesPrune (S.content stores.old (S.of lock.now))) }
+    ensures left { S.Files.honest → IfErr result (LeavesPruned (S.content stores.old (S.of lock.now)) (S.content stores.new (S.of lock.now)) (O.contents output.old) (O.contents output.new)) }
+    ensures others { OthersStay (S.of lock.now) (S.content stores.old) (S.content stores.new) }
 {
-    let _alone = only_remover(rt, store)?;
+    let _alone = stores.remover(lock)?;
+    let files = stores.open_locked(lock)?;
     let tally = Tally::new(&mut faults.stream, faults.is_terminal);
-    let mut files = Counted::new(open_store(rt, store)?, tally);
-    let pruned = prune_in(rt.alloc(), &mut files);
-    let told = files.end();
-    print_count(rt.alloc(), pruned?, output)?;
+    let mut counted = Counted::new(files, tally);
+    let pruned = prune_in(alloc, &mut counted);
+    let (files, told) = counted.end();
+    stores.close_locked(lock, files);
+    print_pruned(alloc, pruned, told, output)
+}
+
+// Prints how many objects were removed, or answers why not all were. What could not be told on a terminal is a fault after that.
+fn print_pruned<O: Write>(
+    alloc: Global,
+    pruned: Result<u64, Failure>,
+    told: io::Result<()>,
+    output: &mut O,
+) -> Result<(), Failure>
+    ensures printed { OnOk result (PrintsCount pruned (O.contents output.old) (O.contents output.new)) }
+    ensures untold { IfErr result (EndsUntold pruned (O.contents output.old) (O.contents output.new)) }
+{
+    let count = match pruned {
+        Ok(count) => count,
+        Err(failure) => return Err(failure),
+    };
+    print_count(alloc, count, output)?;
     told?;
     Ok(())
 }
 
-/// Prints what `prune` would remove now from the store in this folder, and removes nothing.
-pub fn list_going<R, O>(rt: &R, store: &str, output: &mut O) -> Result<(), Failure>
-where
-    R: rt::Files + Syncs<R::File> + AllocGlobal + Clone + Drop,
-    O: Write,
+/// Prints what `prune` would remove now from this store, and removes nothing.
+pub fn list_going<S: Stores, O: Write>(
+    alloc: Global,
+    stores: &mut S,
+    store: &str,
+    output: &mut O,
+) -> Result<(), Failure>
+    ensures printed { S.Files.honest → OnOk result (PrintsGoing (S.content stores.old store.now) (Appends (O.contents output.old) (O.contents output.new))) }
+    ensures refused { S.Files.honest → IfErr result (OrUnopened (IsOfPrune (S.content stores.old store.now))) }
+    ensures nothing_printed { IfErr result (λ e. IsFault e ⊎ Keeps (O.contents output.old) (O.contents output.new)) }
+    ensures front { S.Files.honest → OnErr result (PrintsFront (PrintsGoing (S.content stores.old store.now)) (O.contents output.old) (O.contents output.new)) }
+    ensures same { StoresStay (S.content stores.old) (S.content stores.new) }
 {
-    let mut files = open_store(rt, store)?;
-    print_going(rt.alloc(), &mut files, output)
+    let mut files = stores.open(store)?;
+    let printed = print_going(alloc, &mut files, output);
+    stores.close(store, files);
+    printed
 }
 
 /// Removes each object of these files that no ref, HEAD or file of the index reaches, and returns how many these were. If it ends
@@ -81,6 +110,7 @@ pub fn prune_in<F: Files>(alloc: Global, files: &mut F) -> Result<u64, Failure>
 /// Prints how many objects were removed.
 pub fn print_count<O: Write>(alloc: Global, count: u64, output: &mut O) -> Result<(), Failure>
     ensures line { OnOk result (Appends (O.contents output.old) (O.contents output.new) (pruned_line count)) }
+    ensures front { OnErr result (AppendsFront (O.contents output.old) (O.contents output.new) (pruned_line count)) }
     ensures fault { IfErr result IsFault }
 {
     let line = format!(in alloc; "pruned {count}\n")?;
@@ -93,9 +123,10 @@ pub fn print_going<F: Files, O: Write>(
     files: &mut F,
     output: &mut O,
 ) -> Result<(), Failure>
-    ensures printed { F.honest → OnOk result (PrintsGoing (F.content files.old) (O.contents output.old) (O.contents output.new)) }
+    ensures printed { F.honest → OnOk result (PrintsGoing (F.content files.old) (Appends (O.contents output.old) (O.contents output.new))) }
     ensures refused { F.honest → IfErr result (IsOfPrune (F.content files.old)) }
     ensures nothing_printed { IfErr result (λ e. IsFault e ⊎ Keeps (O.contents output.old) (O.contents output.new)) }
+    ensures front { F.honest → OnErr result (PrintsFront (PrintsGoing (F.content files.old)) (O.contents output.old) (O.contents output.new)) }
     ensures same { F.content files.new ≡ F.content files.old }
     ensures wear { Wears F.failed F.can_fail F.left files.old files.new (TellsOfFiles result) }
 {

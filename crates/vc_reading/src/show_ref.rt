@@ -1,30 +1,39 @@
 //! The subcommand `show-ref`: the refs of a store.
-ghost use Rattle.std.specs.Prelude.{◌≡◌, ◌⊎◌, IfErr, IfOk, OnOk};
+ghost use Rattle.std.specs.Prelude.{◌≡◌, ◌⊎◌, IfErr, IfOk, OnErr, OnOk};
 ghost use Rattle.std.specs.List.{flat_map};
-ghost use Rattle.std.specs.Io.KnownBytes.{Keeps};
+ghost use Rattle.std.specs.Io.KnownBytes.{Appends, Keeps};
 ghost use Rattle.vc_refs.specs.Refs.{refs};
 ghost use Rattle.vc_cli.specs.Failure.{IsFault, TellsOfFiles};
+ghost use Rattle.vc_cli.specs.Printed.{PrintsFront};
+ghost use Rattle.vc_cli.specs.Stores.{OrUnopened, StoresStay};
 ghost use Rattle.vc_reading.specs.Shown.{ref_line, IsOfList, PrintsRefs};
 ghost use Rattle.vc_files.specs.Failures.{Wears};
 
 use std::alloc::{AllocError, Global};
 use std::io::Write;
-use std::rt;
-use vc_cli::{Failure, open_store, print_text};
+use vc_cli::{Failure, Stores, print_text};
 use vc_files::Files;
-use vc_folder::Syncs;
 use vc_object::ObjectId;
 use vc_refname::RefName;
 use vc_refs::Refs;
 
-/// Prints the refs of the store in this folder.
-pub fn show_ref<R, O>(rt: &R, store: &str, output: &mut O) -> Result<(), Failure>
-where
-    R: rt::Files + Syncs<R::File> + AllocGlobal + Clone + Drop,
-    O: Write,
+/// Prints the refs of this store.
+pub fn show_ref<S: Stores, O: Write>(
+    alloc: Global,
+    stores: &mut S,
+    store: &str,
+    output: &mut O,
+) -> Result<(), Failure>
+    ensures printed { S.Files.honest → OnOk result (PrintsRefs (refs (S.content stores.old store.now)) (Appends (O.contents output.old) (O.contents output.new))) }
+    ensures refused { S.Files.honest → IfErr result (OrUnopened (IsOfList (S.content stores.old store.now))) }
+    ensures nothing_printed { IfErr result (λ e. IsFault e ⊎ Keeps (O.contents output.old) (O.contents output.new)) }
+    ensures front { S.Files.honest → OnErr result (PrintsFront (PrintsRefs (refs (S.content stores.old store.now))) (O.contents output.old) (O.contents output.new)) }
+    ensures same { StoresStay (S.content stores.old) (S.content stores.new) }
 {
-    let mut files = open_store(rt, store)?;
-    print_refs(rt.alloc(), &mut files, output)
+    let mut files = stores.open(store)?;
+    let printed = print_refs(alloc, &mut files, output);
+    stores.close(store, files);
+    printed
 }
 
 /// Prints the refs by name, each with its id before it; of none, nothing.
@@ -33,9 +42,10 @@ pub fn print_refs<F: Files, O: Write>(
     files: &mut F,
     output: &mut O,
 ) -> Result<(), Failure>
-    ensures printed { F.honest → OnOk result (PrintsRefs (refs (F.content files.old)) (O.contents output.old) (O.contents output.new)) }
+    ensures printed { F.honest → OnOk result (PrintsRefs (refs (F.content files.old)) (Appends (O.contents output.old) (O.contents output.new))) }
     ensures refused { F.honest → IfErr result (IsOfList (F.content files.old)) }
     ensures nothing_printed { IfErr result (λ e. IsFault e ⊎ Keeps (O.contents output.old) (O.contents output.new)) }
+    ensures front { F.honest → OnErr result (PrintsFront (PrintsRefs (refs (F.content files.old))) (O.contents output.old) (O.contents output.new)) }
     ensures same { F.content files.new ≡ F.content files.old }
     ensures wear { Wears F.failed F.can_fail F.left files.old files.new (TellsOfFiles result) }
 {

@@ -144,18 +144,16 @@ impl<F: Files + Drop, W: Write> Counted<F, W> {
         Counted { files, tally }
     }
 
-    /// Ends the line of the tally, and answers with the first error of the terminal, if there was one.
-    pub(crate) fn end(self) -> io::Result<()>
+    /// Ends the line of the tally, and hands back the files, with the first error of the terminal, if there was one.
+    pub(crate) fn end(self) -> (F, io::Result<()>)
     where
         W: Drop,
-        ensures failed { OnErr self.tally.told (result ≡ self.tally.told) }
+        ensures files { result.0 ≡ self.files }
+        ensures failed { OnErr self.tally.told (result.1 ≡ self.tally.told) }
     {
-        let Counted {
-            files: _,
-            mut tally,
-        } = self;
+        let Counted { files, mut tally } = self;
         tally.end();
-        tally.outcome()
+        (files, tally.outcome())
     }
 }
 

@@ -4,3 +4,5 @@ pub mod CloneLemmas
 pub mod DeviceLemmas
 pub mod MendingLemmas
 pub mod NamedLemmas
+pub mod StatusLemmas
+pub mod TreeLemmas

@@ -5,3 +5,4 @@ pub mod Devices
 pub mod Naming
 pub mod OwnPath
 pub mod StatusLines
+pub mod Trees

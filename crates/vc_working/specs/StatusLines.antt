@@ -61,8 +61,8 @@ pub record IsHeadTree (content : FileMap) (tree : Option ObjectId) : Type 0 wher
   pub readable : IsGoodHeadValue content
   pub is : MatchOption (head_value (refs content) (head_of content)) (tree ≡ None) (λ commit. (root : ObjectId) × (tree ≡ Some root) × Denoted content (peeled commit kinds.Tree) (Ok root))
 
--- the lines of all paths at which something differs, in the order of the paths
-pub record PrintsStatus (content work : FileMap) (own : List ℕ) (old new : Option (List ℕ)) : Type 0 where
+-- this is told of the lines of all paths at which something differs, in the order of the paths
+pub record TellsStatus (content work : FileMap) (own : List ℕ) (Told : List ℕ → Type 0) : Type 0 where
   pub index : IndexMap
   pub spelled : SpellsIndex content index
   pub tree : Option ObjectId
@@ -71,7 +71,11 @@ pub record PrintsStatus (content work : FileMap) (own : List ℕ) (old new : Opt
   pub head_is : IsIndexOfHead (objects content) tree head
   pub changes : List Seen
   pub exact : IsStatus head index work changes
-  pub text : Appends old new (flat_map (change_lines own) changes)
+  pub text : Told (flat_map (change_lines own) changes)
+
+-- they are printed
+abbrev pub PrintsStatus : (content work : FileMap) → (own : List ℕ) → (old new : Option (List ℕ)) → Type 0
+PrintsStatus content work own old new = TellsStatus content work own (Appends old new)
 
 -- HEAD's file or that of its branch is bad
 abbrev pub IsOfHeadValue : FileMap → Failure → Type 0

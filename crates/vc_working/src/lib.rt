@@ -4,11 +4,15 @@
 mod begun;
 mod branch_name;
 mod checkout;
+mod folder_trees;
 mod mending;
 mod named_files;
-pub mod own_folder;
+mod own_folder;
 mod status;
 pub mod work;
+mod work_trees;
 
 pub use branch_name::branch_of;
+pub use folder_trees::FolderTrees;
 pub use named_files::paths_named;
+pub use work_trees::WorkTrees;

@@ -1,7 +1,9 @@
 //! Where the folder of a store lies in a work tree: that folder is no part of the work tree.
 
-ghost use Rattle.std.specs.Prelude.{◌≡◌, ◌↔◌, None, IfSome};
+ghost use Rattle.std.specs.Prelude.{◌≡◌, ◌↔◌, None, IfErr, IfSome};
 ghost use Rattle.std.specs.Path.{PathStartsWith};
+ghost use Rattle.vc_cli.specs.Failure.{IsFault};
+ghost use Rattle.vc_cli.specs.Stores.{IsUnopened};
 ghost use Rattle.vc_working.specs.OwnPath.{IsOwnPath};
 
 use std::alloc::Global;
@@ -17,6 +19,7 @@ use vc_work_folder::is_own;
 pub fn own_folder<R>(rt: &R, store: &str, work: &str) -> Result<String, Failure>
 where
     R: rt::Files + AllocGlobal + Clone + Drop,
+    ensures refused { IfErr result IsUnopened }
 {
     let alloc = rt.alloc();
     let store_place = place_of(rt, store)?;
@@ -52,6 +55,7 @@ fn own_path<'a>(store: &'a str, work: &str) -> Option<&'a str>
 fn place_of<R>(rt: &R, path: &str) -> Result<PathBuf<Global>, Failure>
 where
     R: rt::Files + AllocGlobal,
+    ensures fault { IfErr result IsFault }
 {
     let start = if path.starts_with('/') { "/" } else { "." };
     let mut place = there(rt, start)?.unwrap_or(PathBuf::new(rt.alloc()));
@@ -76,6 +80,7 @@ where
 fn there<R>(rt: &R, path: &str) -> Result<Option<PathBuf<Global>>, Failure>
 where
     R: rt::Files + AllocGlobal,
+    ensures fault { IfErr result IsFault }
 {
     match fs::canonicalize(rt, path) {
         Ok(found) => Ok(Some(found)),

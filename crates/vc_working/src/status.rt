@@ -1,12 +1,13 @@
 //! What `status` prints of files and of a work tree.
-ghost use Rattle.std.specs.Prelude.{◌≡◌, ◌⊎◌, ◌++◌, IfOk, IfErr, OnOk, map};
+ghost use Rattle.std.specs.Prelude.{◌≡◌, ◌⊎◌, ◌++◌, IfOk, IfErr, OnErr, OnOk, map};
 ghost use Rattle.std.specs.List.{flat_map};
 ghost use Rattle.std.specs.Io.KnownBytes.{Keeps};
 ghost use Rattle.vc_checkout.specs.Devices.{WearsEither};
 ghost use Rattle.vc_checkout.specs.Status.{seen};
 ghost use Rattle.vc_checkout.specs.Steps.{IsUntouched};
 ghost use Rattle.vc_cli.specs.Failure.{TellsDevice, TellsOfFiles, status_of};
-ghost use Rattle.vc_working.specs.StatusLines.{IsHeadTree, IsOfHeadTree, PrintsStatus, RefusesStatus, change_lines, index_letter, line, lost_line, unknown_line};
+ghost use Rattle.vc_cli.specs.Printed.{PrintsFront};
+ghost use Rattle.vc_working.specs.StatusLines.{IsHeadTree, IsOfHeadTree, PrintsStatus, RefusesStatus, TellsStatus, change_lines, index_letter, line, lost_line, unknown_line};
 ghost use Rattle.vc_files.specs.Failures.{Wears};
 
 use crate::checkout::peel;
@@ -124,6 +125,7 @@ pub fn print_status<F: Files, W: WorkTree, O: Write>(
 ) -> Result<(), Failure>
     ensures printed { W.honest → F.honest → OnOk result (PrintsStatus (F.content files.old) (W.content work.old) own.now (O.contents output.old) (O.contents output.new)) }
     ensures refused { F.honest → IfErr result (RefusesStatus (F.content files.old)) }
+    ensures front { W.honest → F.honest → OnErr result (PrintsFront (TellsStatus (F.content files.old) (W.content work.old) own.now) (O.contents output.old) (O.contents output.new)) }
     ensures nothing_printed { IfErr result (λ e. (status_of e ≡ 3) ⊎ Keeps (O.contents output.old) (O.contents output.new)) }
     ensures files { F.content files.new ≡ F.content files.old }
     ensures untouched { IsUntouched W.content W.folders work.old work.new }

@@ -3,8 +3,9 @@ use Rattle.vc_files.proofs.WearLemmas.{writes_both, writes_told}
 use Rattle.std.proofs.KnownBytes.{Keeps-refl}
 use Rattle.std.proofs.lemmas.Result.{IfErr-weaker}
 use Rattle.vc_cli.proofs.ToldLemmas.{OnOk-map, told_apart}
-use Rattle.vc_committing.proofs.StepLemmas.{made_none, made_of}
+use Rattle.vc_committing.proofs.StepLemmas.{made_none, made_of, told_front}
 use Rattle.vc_cli.specs.Failure.{IsFault}
+use Rattle.vc_cli.specs.Printed.{AppendsFront, id_line}
 use Rattle.vc_committing.specs.Steps.{IsOfCommitOn, MakesCommit}
 use Rattle.vc_committing.specs.Steps.IsOfCommitOn.{of_making, untold}
 use Rattle.vc_committing.proofs.clone.commit_on.Goals as goal
@@ -20,9 +21,9 @@ returns-in-Ok-commit g c =
     (c.commit.ensures.answers honest).held (c.commit.ensures.answers honest).any (c.in-Ok-commit.ensures.committed honest) (c.commit.ensures.clean honest) in
     record {
       committed = λ honest. OnOk-map c.print_id.result (λ line. record { id = c.in-Ok-commit.id; made = made honest; text = line }) c.print_id.ensures.line;
-      refused = λ honest. IfErr-weaker c.print_id.result IsFault
+      refused = λ honest. IfErr-weaker c.print_id.result (λ e. IsFault e × AppendsFront (contents c.args.output.now) (contents c.print_id.new.output) (id_line c.in-Ok-commit.id))
           (IsOfCommitOn (content c.args.files) c.args.parents.now c.args.words.author.now c.args.words.committer.now c.args.words.message.now (content c.close.result) (contents c.args.output.now) (contents c.print_id.new.output))
-          (λ e fault. untold c.in-Ok-commit.id fault (made honest)) c.print_id.ensures.fault;
+          (λ e told. untold c.in-Ok-commit.id told.0 (made honest) told.1) (told_front c.print_id.result IsFault (AppendsFront (contents c.args.output.now) (contents c.print_id.new.output) (id_line c.in-Ok-commit.id)) c.print_id.ensures.fault c.print_id.ensures.front);
       wear = rw c.close.ensures (writes_both c.in-Ok.ensures.wear (λ none. none) (writes_told c.commit.ensures.wear (search rules) (λ told. absurd (told_apart c.print_id.result c.print_id.ensures.fault told))));
     }
 

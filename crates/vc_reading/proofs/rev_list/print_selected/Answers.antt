@@ -14,5 +14,5 @@ returns-clause-printed g c = λ honest.
       ids = ids;
       selected = c.in-Ok.ensures.selected honest;
       sorted = c.in-Ok.ensures.sorted;
-      text_is = subst (λ (text : List ℕ). Appends (contents c.args.output.now) (contents c.print_text.new.output) text) (c.deref-2.ensures.value ∙ lines) c.in_ok-print_text.ensures.text;
+      text = subst (λ (text : List ℕ). Appends (contents c.args.output.now) (contents c.print_text.new.output) text) (c.deref-2.ensures.value ∙ lines) c.in_ok-print_text.ensures.text;
     }
