@@ -1,1 +1,4 @@
+pub mod Exchanging
+pub mod Performs
 pub mod RemoteFailure
+pub mod Running

@@ -1,11 +1,21 @@
 //! One run of the program: from words and streams to an exit status.
-ghost use Rattle.std.specs.Prelude.{◌≡◌, ◌⊎◌};
-ghost use Rattle.vc_cli.specs.Failure.{status_of};
+ghost use Rattle.clap.specs.Words.{kind_of, subcommand_rows_of};
+ghost use Rattle.clap.specs.declared.error.kind.ErrorKind.TheVariants as kind;
+ghost use Rattle.std.specs.Option.{option_map};
+ghost use Rattle.std.specs.Prelude.{◌≡◌, ◌⊎◌, None, false, true, IfErr, IsErr, IsSome, OnOk, map};
+ghost use Rattle.vc_arguments.specs.Requests.{option_without_folder};
+ghost use Rattle.vc_cli.specs.Failure.{IsFault, status_of};
+ghost use Rattle.vc_arguments.specs.Writers.{needs_store};
+ghost use Rattle.vc_cli.specs.Stores.{IsUnopened, StoresStay};
+ghost use Rattle.vc_commands.specs.Performs.{Found};
+ghost use Rattle.vc_commands.specs.Running.{EndsSo, IsExplained, IsStatusOf, IsToldSo, Runs, RunsFor, TellsFailure};
 
-use crate::remote::{fetch, push};
+use crate::folder_host::{Asked, FolderHost, exchange};
+use crate::host::Host;
+use crate::performing::perform;
 use clap::error::ErrorKind;
 use clap::{ArgMatches, Error};
-use std::alloc::Global;
+use std::alloc::{AllocError, Global};
 use std::convert::AsStr;
 use std::fs::File;
 use std::io::{Read, Write};
@@ -14,44 +24,25 @@ use std::rt;
 use std::sync::Wait;
 use std::thread::Threads;
 use std::time::Clock;
-use vc_arguments::{
-    LocalTask, RemoteTask, Request, Serving, Task, command, list_of, option_without_folder,
-    request_of, terms_of,
-};
-use vc_cli::{Failure, Faults, only_writer, refuse_second_store};
-use vc_committing::adding::add;
-use vc_committing::{branch, branch_delete, commit, unstage, write_tree};
+use vc_arguments::{Request, Task, command, list_of, option_without_folder, request_of, terms_of};
+use vc_cli::{Failure, Faults, FolderStores, Stores};
 use vc_files::Fault;
-use vc_folder::Syncs;
-use vc_playing::world::world;
-use vc_reading::cat_file::cat_file;
-use vc_reading::hash_object::{HashObject, hash_object, store_stream};
-use vc_reading::init::init;
-use vc_reading::merge_base::merge_base;
-use vc_reading::pack_refs::pack_refs;
-use vc_reading::prune::{list_going, prune};
-use vc_reading::rev_list::rev_list;
-use vc_reading::rev_parse::rev_parse;
-use vc_reading::show_ref::show_ref;
 use vc_reading::{Input, Lists, line_of_refusal};
-use vc_serving::serve;
-use vc_together::{serve_by_workers, serve_together};
-use vc_transport::Place;
 use vc_work_folder::Beside;
-use vc_working::work::{checkout, status};
+use vc_working::{FolderTrees, WorkTrees};
 
 /// Does what the words ask for and gives the exit status: 0 done, 1 refused, 2 a command line that is off, 3 a
 /// fault. Answers go to `output`, everything else to `faults`. The first word is the program's name. A command that writes
 /// to its store waits for another one that does.
-pub fn run<R, S, I, O, E>(
+pub fn run<R, W, I, O, E>(
     rt: &R,
-    words: &[S],
+    words: &[W],
     input: Input<I>,
     output: &mut O,
     faults: &mut Faults<E>,
 ) -> u8
 where
-    S: AsStr,
+    W: AsStr,
     R: rt::Files<File = File>
         + Threads
         + Wait
@@ -70,49 +61,156 @@ where
     O: Write,
     E: Write + Send,
 {
-    match obey(rt, words, input, output, faults) {
+    let mut stores = FolderStores::new(rt);
+    let mut trees = FolderTrees::new(rt);
+    let mut host = FolderHost::new(rt);
+    let status = run_with(
+        rt.alloc(),
+        &mut stores,
+        &mut trees,
+        &mut host,
+        words,
+        input,
+        output,
+        faults,
+    );
+    match host.into_asked() {
+        Some(asked) => end_asked(rt, &asked, output, faults),
+        None => status,
+    }
+}
+
+// Does what was asked of another process, and gives the status.
+fn end_asked<R, O, E>(rt: &R, asked: &Asked, output: &mut O, faults: &mut Faults<E>) -> u8
+where
+    R: rt::Files<File = File>
+        + Threads
+        + Wait
+        + Net
+        + Clock
+        + Beside<R>
+        + AllocGlobal
+        + Clone
+        + Drop
+        + Send
+        + Sync,
+    R::Stream: Send,
+    R::Listener: Sync,
+    R::Dir: Send,
+    O: Write,
+    E: Write + Send,
+{
+    let items = match words_of(rt.alloc(), &asked.items) {
+        Ok(items) => items,
+        Err(error) => return tell(&Failure::from(error), None, faults),
+    };
+    let store = asked.store.as_str();
+    let answer = exchange(rt, store, asked.task, &items, output, faults);
+    let request = Request {
+        store,
+        is_named: true,
+        task: Task::Remote(asked.task),
+    };
+    let lists = Lists {
+        terms: "",
+        parents: &[],
+        items: &items,
+        paths: &[],
+    };
+    let mut stores = FolderStores::new(rt);
+    end(rt.alloc(), &mut stores, &request, lists, answer, faults)
+}
+
+// The texts, as words.
+fn words_of(alloc: Global, texts: &[String]) -> Result<Vec<&str>, AllocError> {
+    let mut words = Vec::new(alloc);
+    for text in texts {
+        words.push(text.as_str())?;
+    }
+    Ok(words)
+}
+
+/// The same run over any stores, work trees and host.
+pub fn run_with<S, T, H, W, I, O, E>(
+    alloc: Global,
+    stores: &mut S,
+    trees: &mut T,
+    host: &mut H,
+    words: &[W],
+    input: Input<I>,
+    output: &mut O,
+    faults: &mut Faults<E>,
+) -> u8
+where
+    S: Stores,
+    T: WorkTrees,
+    H: Host,
+    W: AsStr,
+    I: Read + Drop,
+    O: Write,
+    E: Write,
+    ensures runs { Runs S.Files.content S.is_durable (record { honest = S.Files.honest; trees_honest = T.Tree.honest; can_hold = T.can_hold trees.old; own = T.own trees.old; bodies = H.bodies host.old; input = I.remaining input.stream }) (S.content stores.old) (S.content stores.new) (T.trees trees.old) (T.trees trees.new) (O.contents output.old) (O.contents output.new) (map W.text words.now) result }
+{
+    match obey(alloc, stores, trees, host, words, input, output, faults) {
         Ok(status) => status,
         Err(failure) => tell(&failure, None, faults),
     }
 }
 
-fn obey<R, S, I, O, E>(
-    rt: &R,
-    words: &[S],
+// Reads the words, and does what they ask for.
+fn obey<S, T, H, W, I, O, E>(
+    alloc: Global,
+    stores: &mut S,
+    trees: &mut T,
+    host: &mut H,
+    words: &[W],
     input: Input<I>,
     output: &mut O,
     faults: &mut Faults<E>,
 ) -> Result<u8, Failure>
 where
-    S: AsStr,
-    R: rt::Files<File = File>
-        + Threads
-        + Wait
-        + Net
-        + Clock
-        + Beside<R>
-        + AllocGlobal
-        + Clone
-        + Drop
-        + Send
-        + Sync,
-    R::Stream: Send,
-    R::Listener: Sync,
-    R::Dir: Send,
+    S: Stores,
+    T: WorkTrees,
+    H: Host,
+    W: AsStr,
     I: Read + Drop,
     O: Write,
-    E: Write + Send,
+    E: Write,
+    ensures { EndsSo (Runs S.Files.content S.is_durable (record { honest = S.Files.honest; trees_honest = T.Tree.honest; can_hold = T.can_hold trees.old; own = T.own trees.old; bodies = H.bodies host.old; input = I.remaining input.stream }) (S.content stores.old) (S.content stores.new) (T.trees trees.old) (T.trees trees.new) (O.contents output.old) (O.contents output.new) (map W.text words.now)) result }
 {
-    let matches = match command(rt.alloc())?.try_get_matches_from(words) {
-        Ok(matches) => matches,
-        Err(error) => return explain(&error, output, &mut faults.stream),
-    };
-    refuse_unnamed_folder(rt.alloc(), &matches)?;
-    let terms = terms_of(rt.alloc(), &matches)?;
-    let parents = list_of(rt.alloc(), &matches, "parent")?;
-    let items = list_of(rt.alloc(), &matches, "item")?;
-    let paths = list_of(rt.alloc(), &matches, "paths")?;
-    let Some(request) = request_of(&matches) else {
+    let program = command(alloc)?;
+    match program.try_get_matches_from(words) {
+        Ok(matches) => answer(alloc, stores, trees, host, &matches, input, output, faults),
+        Err(error) => explain(&error, output, &mut faults.stream),
+    }
+}
+
+// Does what these matches ask for.
+fn answer<S, T, H, I, O, E>(
+    alloc: Global,
+    stores: &mut S,
+    trees: &mut T,
+    host: &mut H,
+    matches: &ArgMatches<'_>,
+    input: Input<I>,
+    output: &mut O,
+    faults: &mut Faults<E>,
+) -> Result<u8, Failure>
+where
+    S: Stores,
+    T: WorkTrees,
+    H: Host,
+    I: Read + Drop,
+    O: Write,
+    E: Write,
+    ensures { EndsSo (RunsFor S.Files.content S.is_durable (record { honest = S.Files.honest; trees_honest = T.Tree.honest; can_hold = T.can_hold trees.old; own = T.own trees.old; bodies = H.bodies host.old; input = I.remaining input.stream }) (S.content stores.old) (S.content stores.new) (T.trees trees.old) (T.trees trees.new) (O.contents output.old) (O.contents output.new) (subcommand_rows_of matches.now)) result }
+{
+    refuse_unnamed_folder(alloc, matches)?;
+    let terms = terms_of(alloc, matches)?;
+    let parents = list_of(alloc, matches, "parent")?;
+    let items = list_of(alloc, matches, "item")?;
+    let paths = list_of(alloc, matches, "paths")?;
+    let Some(request) = request_of(matches) else {
         return Ok(2);
     };
     let lists = Lists {
@@ -121,33 +219,60 @@ where
         items: &items,
         paths: &paths,
     };
-    if !request.is_named && request.task.needs_store() {
-        refuse_second_store(rt)?;
+    look_above(host, &request)?;
+    let answer = perform(
+        alloc, stores, trees, host, &request, lists, input, output, faults,
+    );
+    Ok(end(alloc, stores, &request, lists, answer, faults))
+}
+
+// Refuses to begin a second store below the folder of another one, if no store is named and one is needed.
+fn look_above<H: Host>(host: &mut H, request: &Request<'_>) -> Result<(), Failure>
+    ensures refused { IfErr result (λ e. (request.now.is_named ≡ false) × (needs_store request.now.task ≡ true) × IsUnopened e) }
+    ensures same { H.bodies host.new ≡ H.bodies host.old }
+{
+    if request.is_named || !request.task.needs_store() {
+        return Ok(());
     }
-    match perform(rt, &request, lists, input, output, faults) {
-        Ok(true) => Ok(0),
-        Ok(false) => Ok(1),
-        Err(failure) => Ok(tell_at(rt, &request, lists, &failure, faults)),
+    host.refuse_second_store()
+}
+
+// The status of an answer. Why there is none is told.
+fn end<S: Stores, E: Write>(
+    alloc: Global,
+    stores: &mut S,
+    request: &Request<'_>,
+    lists: Lists<'_>,
+    answer: Result<bool, Failure>,
+    faults: &mut Faults<E>,
+) -> u8
+    ensures status { IsStatusOf answer result }
+    ensures told { IfErr answer (IsToldSo E.contents faults.old faults.new result) }
+    ensures same { StoresStay (S.content stores.old) (S.content stores.new) }
+{
+    match answer {
+        Ok(true) => 0,
+        Ok(false) => 1,
+        Err(failure) => tell_at(alloc, stores, request, lists, &failure, faults),
     }
 }
 
 // Tells why the command ended, and on a terminal what is at fault. Where that can't be found, the refusal is told all the same.
-fn tell_at<R, E>(
-    rt: &R,
+fn tell_at<S: Stores, E: Write>(
+    alloc: Global,
+    stores: &mut S,
     request: &Request<'_>,
     lists: Lists<'_>,
     failure: &Failure,
     faults: &mut Faults<E>,
 ) -> u8
-where
-    R: rt::Files + Syncs<R::File> + AllocGlobal + Clone + Drop,
-    E: Write,
-    ensures status { (result ≡ status_of failure.now) ⊎ (result ≡ 3) }
+    ensures told { IsToldSo E.contents faults.old faults.new result failure.now }
+    ensures same { StoresStay (S.content stores.old) (S.content stores.new) }
 {
     if !faults.is_terminal {
         return tell(failure, None, faults);
     }
-    match line_of_refusal(rt, request.store, request.task, lists, failure) {
+    match line_of_refusal(alloc, stores, request.store, request.task, lists, failure) {
         Ok(Some(line)) => tell(failure, Some(&line), faults),
         Ok(None) => tell(failure, None, faults),
         Err(_) => tell(failure, None, faults),
@@ -158,6 +283,7 @@ where
 /// told.
 pub fn tell<E: Write>(failure: &Failure, behind: Option<&[u8]>, faults: &mut Faults<E>) -> u8
     ensures status { (result ≡ status_of failure.now) ⊎ (result ≡ 3) }
+    ensures told { TellsFailure E.contents faults.old faults.new (option_map (λ line. line.now) behind.entry) failure.now result }
 {
     match failure.report(behind, faults) {
         Ok(status) => status,
@@ -166,7 +292,10 @@ pub fn tell<E: Write>(failure: &Failure, behind: Option<&[u8]>, faults: &mut Fau
 }
 
 // Refuses an option that names no folder.
-fn refuse_unnamed_folder(alloc: Global, matches: &ArgMatches<'_>) -> Result<(), Failure> {
+fn refuse_unnamed_folder(alloc: Global, matches: &ArgMatches<'_>) -> Result<(), Failure>
+    ensures named { OnOk result (option_without_folder (subcommand_rows_of matches.now) ≡ None) }
+    ensures refused { IfErr result (λ e. IsFault e ⊎ ((status_of e ≡ 2) × IsSome (option_without_folder (subcommand_rows_of matches.now)))) }
+{
     match option_without_folder(matches) {
         Some(option) => Err(Failure::Usage(format!(in alloc;
             "{option} names no folder: its value is empty"
@@ -176,11 +305,10 @@ fn refuse_unnamed_folder(alloc: Global, matches: &ArgMatches<'_>) -> Result<(), 
 }
 
 // Prints what the reader of the command line has to say: help that was asked for, or what is off.
-fn explain<O: Write, E: Write>(
-    error: &Error,
-    output: &mut O,
-    faults: &mut E,
-) -> Result<u8, Failure> {
+fn explain<O: Write, E: Write>(error: &Error, output: &mut O, faults: &mut E) -> Result<u8, Failure>
+    ensures explained { IsExplained result }
+    ensures memory { kind_of error.now ≡ kind.OutOfMemory → IsErr result }
+{
     if error.kind() == ErrorKind::OutOfMemory {
         return Err(Failure::Fault(Fault::Memory));
     }
@@ -190,184 +318,4 @@ fn explain<O: Write, E: Write>(
     }
     write!(output, "{error}")?;
     Ok(0)
-}
-
-// Does what is asked, and tells whether there was an answer: to ask for what doesn't exist is status 1 with no words. A
-// command that writes has its store alone until it ends.
-fn perform<R, I, O, E>(
-    rt: &R,
-    request: &Request<'_>,
-    lists: Lists<'_>,
-    input: Input<I>,
-    output: &mut O,
-    faults: &mut Faults<E>,
-) -> Result<bool, Failure>
-where
-    R: rt::Files<File = File>
-        + Threads
-        + Wait
-        + Net
-        + Clock
-        + Beside<R>
-        + AllocGlobal
-        + Clone
-        + Drop
-        + Send
-        + Sync,
-    R::Stream: Send,
-    R::Listener: Sync,
-    R::Dir: Send,
-    I: Read + Drop,
-    O: Write,
-    E: Write + Send,
-{
-    let store = request.store;
-    if let Task::HashObject {
-        kind,
-        write: true,
-        file: None,
-    } = request.task
-    {
-        store_stream(rt, store, kind, input, output, faults)?;
-        return Ok(true);
-    }
-    if let Task::Remote(task) = request.task {
-        return exchange(rt, store, task, lists.items, output, faults);
-    }
-    let _lock = if request.task.is_writer() {
-        Some(only_writer(rt, store, faults)?)
-    } else {
-        None
-    };
-    match request.task {
-        Task::Init => init(rt, store)?,
-        Task::HashObject { kind, write, file } => {
-            let store = if write { Some(store) } else { None };
-            hash_object(rt, HashObject { kind, store, file }, input, output)?;
-        }
-        Task::CatFile { part, revision } => cat_file(rt, store, part, revision, output)?,
-        Task::ShowRef => show_ref(rt, store, output)?,
-        Task::RevParse { revision } => rev_parse(rt, store, revision, output)?,
-        Task::RevList => rev_list(rt, store, lists.terms, output)?,
-        Task::Prune { dry_run: true } => list_going(rt, store, output)?,
-        Task::Prune { dry_run: false } => prune(rt, store, output, faults)?,
-        Task::MergeBase { first, second } => {
-            return merge_base(rt, store, first, second, output);
-        }
-        Task::Local(task) => work_on(rt, store, task, lists, output, faults)?,
-        Task::Remote(_) => {}
-        Task::World { file } => world(rt, file, output)?,
-    }
-    Ok(true)
-}
-
-// Serves a store, or does what is asked of a served one. Each has its store alone only while it works on it, and not while
-// it waits for another process.
-fn exchange<R, O, E>(
-    rt: &R,
-    store: &str,
-    task: RemoteTask,
-    items: &[&str],
-    output: &mut O,
-    faults: &mut Faults<E>,
-) -> Result<bool, Failure>
-where
-    R: rt::Files<File = File>
-        + Threads
-        + Wait
-        + Net
-        + Clock
-        + Beside<R>
-        + AllocGlobal
-        + Clone
-        + Drop
-        + Send
-        + Sync,
-    R::Stream: Send,
-    R::Listener: Sync,
-    R::Dir: Send,
-    O: Write,
-    E: Write + Send,
-{
-    match task {
-        RemoteTask::Serve(serving) => serve_store(rt, store, serving, output, faults),
-        RemoteTask::Fetch { port, timeout } => {
-            fetch(rt, store, Place { port, timeout }, output, faults)?;
-            Ok(true)
-        }
-        RemoteTask::Push {
-            port,
-            timeout,
-            atomic,
-        } => {
-            let place = Place { port, timeout };
-            push(rt, store, place, atomic, items, output, faults)
-        }
-    }
-}
-
-// Serves a store: one connection after the other, or all at once, if it is said how many those are.
-fn serve_store<R, O, E>(
-    rt: &R,
-    store: &str,
-    serving: Serving,
-    output: &mut O,
-    faults: &mut Faults<E>,
-) -> Result<bool, Failure>
-where
-    R: rt::Files<File = File>
-        + Threads
-        + Wait
-        + Net
-        + Clock
-        + Beside<R>
-        + AllocGlobal
-        + Clone
-        + Drop
-        + Send
-        + Sync,
-    R::Stream: Send,
-    R::Listener: Sync,
-    R::Dir: Send,
-    O: Write,
-    E: Write + Send,
-{
-    match serving.count {
-        Some(count) if serving.together => {
-            return serve_together(rt, store, count, serving, output, faults);
-        }
-        _ => {}
-    }
-    match serving.workers {
-        Some(workers) => serve_by_workers(rt, store, workers, serving, output, faults)?,
-        None => serve(rt, store, serving, output, faults)?,
-    }
-    Ok(true)
-}
-
-// Does what is asked of a clone's index, branches, HEAD and work tree.
-fn work_on<R, O, E>(
-    rt: &R,
-    store: &str,
-    task: LocalTask<'_>,
-    lists: Lists<'_>,
-    output: &mut O,
-    faults: &mut Faults<E>,
-) -> Result<(), Failure>
-where
-    R: rt::Files + Syncs<R::File> + Beside<R> + AllocGlobal + Clone + Drop,
-    O: Write,
-    E: Write,
-{
-    match task {
-        LocalTask::Add { mode, work } => add(rt, store, work, mode, lists.paths),
-        LocalTask::Unstage { path } => unstage(rt, store, path),
-        LocalTask::WriteTree => write_tree(rt, store, output),
-        LocalTask::Commit(words) => commit(rt, store, words, lists.parents, output),
-        LocalTask::Branch { name, revision } => branch(rt, store, name, revision, faults),
-        LocalTask::BranchDelete { name } => branch_delete(rt, store, name, faults),
-        LocalTask::PackRefs => pack_refs(rt, store),
-        LocalTask::Checkout { work, revision } => checkout(rt, store, work, revision),
-        LocalTask::Status { work } => status(rt, store, work, output, faults),
-    }
 }

@@ -1,16 +1,19 @@
 //! The subcommands that ask another process: `fetch` and `push`.
-ghost use Rattle.std.specs.Prelude.{◌≡◌};
+ghost use Rattle.std.specs.Prelude.{◌≡◌, ◌≢◌, []};
 ghost use Rattle.vc_transport.specs.Progress.{goes_to_terminal};
 
-use crate::remote_failure::failure_of;
+use crate::exchanging::{fetch_from, push_to};
 use std::fs::File;
 use std::io::Write;
 use std::net::Net;
 use std::rt;
 use std::thread::Threads;
-use vc_cli::{Failure, Faults, keep_objects, only_writer, open_store, print_text};
+use vc_cli::{Failure, Faults, FolderStores, StoreLock, Stores, keep_objects, open_store};
+use vc_folder::FolderFiles;
 use vc_push_items::items_of;
-use vc_transport::{Place, Progress, is_done, report_lines};
+use vc_remote::Server;
+use vc_sending::PushItem;
+use vc_transport::{Place, Progress};
 
 // Where a person is told how far a long message is: on a terminal alone.
 fn progress_of<E: Write>(faults: &mut Faults<E>) -> Progress<&mut E>
@@ -33,20 +36,39 @@ where
     O: Write,
     E: Write,
 {
-    let lock = only_writer(rt, store, faults)?;
+    let mut stores = FolderStores::new(rt);
+    let lock = stores.lock(store, faults)?;
     let _kept = keep_objects(rt, store)?;
+    let files = stores.open_locked(&lock)?;
     let mut progress = progress_of(faults);
-    let moved = match vc_remote::fetch(rt, lock, store, place, &mut progress) {
-        Ok(moved) => moved,
-        Err(fault) => return Err(failure_of(fault)),
-    };
-    let line = format!(in rt.alloc(); "moved {moved}\n")?;
-    print_text(line.as_bytes(), output)?;
+    fetch_over(rt, &mut stores, lock, files, place, &mut progress, output)?;
     progress.outcome()?;
     Ok(())
 }
 
-/// Pushes from the clone in this folder to the store that is served at a port, prints what became of each item, and tells
+// Fetches into the clone that the files of a locked store hold, from the store that is served at a port.
+fn fetch_over<R, W, O>(
+    rt: &R,
+    stores: &mut FolderStores<'_, R>,
+    lock: StoreLock<R>,
+    files: FolderFiles<R>,
+    place: Place,
+    progress: &mut Progress<W>,
+    output: &mut O,
+) -> Result<(), Failure>
+where
+    R: rt::Files<File = File> + Threads + Net + AllocGlobal + Clone + Drop,
+    W: Write,
+    O: Write,
+{
+    let alloc = rt.alloc();
+    let StoreLock { store, lock } = lock;
+    let folder = String::from_str(alloc, store.as_str())?;
+    let mut server = Server::new(rt.clone()?, place, folder, lock, progress);
+    fetch_from(alloc, stores, store.as_str(), files, &mut server, output)
+}
+
+/// Pushes from the clone in this folder to the store that is served at a port, prints what became of each item, and returns
 /// whether all were done. If the push is atomic, all were done or none was. Nobody takes objects from the clone meanwhile. What could
 /// not be told on a terminal is a fault after the answer.
 pub fn push<R, O, E>(
@@ -64,7 +86,8 @@ where
     E: Write,
 {
     let alloc = rt.alloc();
-    let lock = only_writer(rt, store, faults)?;
+    let mut stores = FolderStores::new(rt);
+    let lock = stores.lock(store, faults)?;
     let items = items_of(alloc, &mut open_store(rt, store)?, items)?;
     // The command line has one at least.
     if items.is_empty() {
@@ -72,12 +95,53 @@ where
     }
     // A report names what was pushed, which no ref of the clone need reach until then.
     let _kept = keep_objects(rt, store)?;
+    let files = stores.open_locked(&lock)?;
     let mut progress = progress_of(faults);
-    let report = match vc_remote::push(rt, lock, store, place, atomic, &items, &mut progress) {
-        Ok(report) => report,
-        Err(fault) => return Err(failure_of(fault)),
-    };
-    print_text(&report_lines(alloc, &report)?, output)?;
+    let done = push_over(
+        rt,
+        &mut stores,
+        lock,
+        files,
+        place,
+        atomic,
+        &items,
+        &mut progress,
+        output,
+    )?;
     progress.outcome()?;
-    Ok(is_done(&report))
+    Ok(done)
+}
+
+// Pushes these items from the clone that the files of a locked store hold, to the store that is served at a port.
+fn push_over<R, W, O>(
+    rt: &R,
+    stores: &mut FolderStores<'_, R>,
+    lock: StoreLock<R>,
+    files: FolderFiles<R>,
+    place: Place,
+    atomic: bool,
+    items: &[PushItem],
+    progress: &mut Progress<W>,
+    output: &mut O,
+) -> Result<bool, Failure>
+where
+    R: rt::Files<File = File> + Threads + Net + AllocGlobal + Clone + Drop,
+    W: Write,
+    O: Write,
+    requires some { items.now ≢ [] }
+{
+    let alloc = rt.alloc();
+    let StoreLock { store, lock } = lock;
+    let folder = String::from_str(alloc, store.as_str())?;
+    let mut server = Server::new(rt.clone()?, place, folder, lock, progress);
+    push_to(
+        alloc,
+        stores,
+        store.as_str(),
+        files,
+        &mut server,
+        atomic,
+        items,
+        output,
+    )
 }

@@ -1,12 +1,11 @@
-//! A clone's exchanges with a shared node at a port of this machine: what a client does over a socket.
+//! The shared node at a port of this machine, as a clone meets it: what a client does over a socket.
 //!
 //! A connection carries messages one after the other: the client sends one, and the server answers with one. Nothing is
 //! claimed of sockets and folders; what a message does at a clone, the crates below state.
 #![tactic(auto)]
 
-mod exchanging;
 mod peer;
 mod remote_fault;
 
-pub use exchanging::{fetch, push};
+pub use peer::Server;
 pub use remote_fault::RemoteFault;

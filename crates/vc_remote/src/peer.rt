@@ -1,8 +1,9 @@
 //! The shared node at a port of this machine, as a clone meets it.
-ghost use Rattle.std.specs.Prelude.{◌≡◌, ⊤};
+ghost use Rattle.std.specs.Prelude.{◌≡◌, ⊤, IfOk};
 ghost use Rattle.vc_files.specs.Failures.{greatest_count};
 ghost use Rattle.vc_files.specs.declared.faults.Fault.TheVariants.{Device};
 ghost use Rattle.vc_model.specs.Node.Answer.{Declined};
+ghost use Rattle.vc_world.specs.Alone.{WasSpelled};
 ghost use Rattle.vc_remote.specs.declared.remote_fault.RemoteFault.TheVariants.{Fault as OfDevice};
 
 use crate::remote_fault::RemoteFault;
@@ -36,7 +37,7 @@ const BOUND: Bound = Bound {
 /// before the clone sees the answer: a server that is silent stops no other command on the clone. An answer that is long is kept in a
 /// file meanwhile, from which the clone takes it object by object.
 #[derive(Drop)]
-pub(crate) struct Server<'a, R: rt::Files + Net + AllocGlobal + Clone + Drop, W> {
+pub struct Server<'a, R: rt::Files + Net + AllocGlobal + Clone + Drop, W> {
     rt: R,
     place: Place,
     // The folder of the clone.
@@ -53,7 +54,7 @@ where
     W: Write,
 {
     /// The shared node at a port, for the clone in a folder, whose lock is held. The first question makes the connection.
-    pub(crate) fn new(
+    pub fn new(
         rt: R,
         place: Place,
         store: String,
@@ -140,10 +141,9 @@ fn refusal_in(alloc: Global, answer: Kept<File>) -> RemoteFault {
 }
 
 // The answer, read where it is short; or what the server said where it refused, which is always short.
-fn read(
-    alloc: Global,
-    answer: Spooled<File>,
-) -> Result<Reply<Fallible<Spooled<File>>>, RemoteFault> {
+fn read(alloc: Global, answer: Spooled<File>) -> Result<Reply<Fallible<Spooled<File>>>, RemoteFault>
+    ensures { IfOk result WasSpelled }
+{
     let mut short = match answer {
         Spooled::Memory(short) => Fallible::new(short),
         long => return Ok(Reply::Reader(Fallible::new(long))),
@@ -179,6 +179,8 @@ where
     ghost is_device = { λ refusal. refusal ≡ OfDevice Device };
 
     ghost loses = { ⊤ };
+
+    ghost says = { λ _ _ _ _. ⊤ };
 
     fn ask(&mut self, bytes: &[u8]) -> Result<Reply<Fallible<Spooled<File>>>, RemoteFault> {
         self.lock = None;

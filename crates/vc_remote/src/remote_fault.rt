@@ -2,11 +2,11 @@
 
 ghost use Rattle.std.specs.Prelude.{◌≡◌};
 ghost use Rattle.vc_files.specs.declared.faults.Fault.TheVariants.{Memory};
+ghost use Rattle.vc_remote.specs.Ends.{of_end, of_incoming};
 ghost use Rattle.vc_remote.specs.declared.remote_fault.RemoteFault.TheVariants.{Fault};
 
 use std::alloc::AllocError;
 use vc_files::Fault;
-use vc_local::NodeFault;
 use vc_message::IncomingFault;
 use vc_node::CloneFault;
 use vc_pkt::PktFault;
@@ -45,13 +45,9 @@ impl From<AllocError> for RemoteFault {
     }
 }
 
-impl From<NodeFault> for RemoteFault {
-    fn from(fault: NodeFault) -> Self {
-        RemoteFault::Clone(CloneFault::Node(fault))
-    }
-}
-
 impl From<IncomingFault> for RemoteFault {
+    ghost from_gives = { λ fault e. e ≡ of_incoming fault };
+
     fn from(fault: IncomingFault) -> Self {
         match fault {
             IncomingFault::Memory => RemoteFault::Fault(Fault::Memory),
@@ -62,6 +58,8 @@ impl From<IncomingFault> for RemoteFault {
 }
 
 impl From<ExchangeEnd<RemoteFault>> for RemoteFault {
+    ghost from_gives = { λ end e. e ≡ of_end end };
+
     fn from(end: ExchangeEnd<RemoteFault>) -> Self {
         match end {
             ExchangeEnd::Clone(fault) => RemoteFault::Clone(fault),

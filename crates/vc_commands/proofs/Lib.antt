@@ -1,0 +1,3 @@
+mod PerformLemmas
+mod RunLemmas
+mod TellingLemmas
