@@ -35,6 +35,9 @@ for _ in range(4):
     ANGLES = rf"<(?:->|[^<>]|{ANGLES})*>"
 IMPL = re.compile(rf"(?:unsafe )?impl({ANGLES})? (.*?)(?: where\b.*)?\{{?\}}?")
 TYPE = re.compile(rf"^{PUB}(?:struct|enum|union) (\w+)", re.M)
+# What is said where a text is made of a value, and how a type says what its text is.
+FORMATS = re.compile(r"\b(?:Debug|Display|to_string)\b|\b(?:format|format_args|write|writeln|e?print|e?println)!")
+FORMATTED = re.compile(r"(?:fmt::)?(?:Debug|Display) for .*")
 
 
 def text_of(crate, path):
@@ -252,6 +255,9 @@ def leads_of(crate, path, text, said_here=None):
         said_here = tokens if said_here is None else said_here
         leads |= {*modules_around(crate, path), *((crate.name, it) for it in tokens), *((crate.name, path, it) for it in said_here)}
         leads |= {*steps_of(text), *((crate.name, "type", it) for it in TYPE.findall(text))}
+        # (an attribute that derives one of these makes no text)
+        if FORMATS.search(re.sub(r"#\[derive\(.*?\)\]", "", text, flags=re.S)):
+            leads.add(("", "formats"))
     return leads
 
 
@@ -411,7 +417,11 @@ def pieces_of_item(crate, path, item, types, is_local):
                 names = names_of(crate, path, member, types, is_member=True)
                 yield with_contracts(crate, piece(crate, path, text, names, owner_of(crate, item, types)))
     else:
-        yield with_contracts(crate, piece(crate, path, text, names_of(crate, path, item, types)))
+        names = names_of(crate, path, item, types)
+        found = IMPL.fullmatch(header_of(item))
+        # (how the text of a type is made is nothing to a text that makes none)
+        needed = {("", "formats")} if names and found and FORMATTED.fullmatch(found[2]) else ()
+        yield with_contracts(crate, piece(crate, path, text, names, needed))
 
 
 def with_contracts(crate, it):
