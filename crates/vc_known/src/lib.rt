@@ -1,0 +1,9 @@
+//! What the roots of a store reached at successive moments, in one table, so that a walk needs to see only what came since.
+#![tactic(auto)]
+
+mod laws;
+
+pub use laws::{
+    a_layer_is_the_first, an_added_layer_is_right, layers_grow, layers_stay, the_difference_is_above,
+    walks_meet_what_is_above,
+};
