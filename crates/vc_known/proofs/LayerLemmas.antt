@@ -288,6 +288,6 @@ module _ {Id : Type 0} (links later : Id → Option (List Id)) (moments : List (
 
   pub AreLayers-grown : ((x : Id) (ys : List Id) → links x ≡ Some ys → later x ≡ Some ys) → AreLayers later moments layers
   AreLayers-grown more = AreLayers-later links later moments layers are (λ x some.
-  let layer = value_of (layers x) some in
-  let ys = value_of (links x) (are.there x layer.0 layer.1).1 in
-  more x ys.0 ys.1 ∙ sym ys.1)
+      let layer = value_of (layers x) some in
+      let ys = value_of (links x) (are.there x layer.0 layer.1).1 in
+      more x ys.0 ys.1 ∙ sym ys.1)

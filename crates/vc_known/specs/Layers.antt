@@ -5,6 +5,11 @@ use Rattle.std.specs.Prelude.{◌≡◌, ◌↔◌, ◌<◌, ◌≤◌, ◌++◌
 use Rattle.std.specs.Option.{option_map}
 use Rattle.vc_object_map.specs.Graph.{IsClosedUnder, ReachedFrom}
 
+-- whether a layer is one of the first `count`
+abbrev pub is_below : ℕ → Option ℕ → Bool
+is_below count None = false
+is_below count (Some layer) = nat_lt layer count
+
 module _ {Id : Type 0} where
   -- the name is in one of the first `count` layers
   pub record IsWithin (layers : Id → Option ℕ) (count : ℕ) (x : Id) : Type 0 where
@@ -16,11 +21,6 @@ module _ {Id : Type 0} where
   abbrev pub last_roots : List (List Id) → ℕ → List Id
   last_roots moments zero = []
   last_roots moments (suc before) = get_or moments before []
-
-  -- ---- as a test
-  abbrev pub is_below : ℕ → Option ℕ → Bool
-  is_below count None = false
-  is_below count (Some layer) = nat_lt layer count
 
   -- the names of a list that are in none of the first `count` layers
   abbrev pub above : (Id → Option ℕ) → ℕ → List Id → List Id
