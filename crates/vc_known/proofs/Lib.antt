@@ -1,1 +1,6 @@
+pub mod AddedLemmas
+pub mod KindLemmas
+pub mod KnownLemmas
 pub mod LayerLemmas
+pub mod PlaceLemmas
+pub mod StaysLemmas

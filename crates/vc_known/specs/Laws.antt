@@ -1,8 +1,13 @@
 -- The laws of layers.
-use Rattle.std.specs.Prelude.{◌≡◌, ◌↔◌, ◌<◌, ◌≤◌, ◌+◌, ◌++◌, ◌∷◌, [], ℕ, List, Option, Some, length}
+use Rattle.std.specs.Prelude.{◌≡◌, ◌↔◌, ◌<◌, ◌≤◌, ◌+◌, ◌++◌, ◌∷◌, [], ℕ, List, Option, Some, IsSome, Contains, length}
 use Rattle.vc_object_map.specs.Graph.{IsClosedUnder, IsReachedBeyond, ReachedFrom}
+use Rattle.vc_history.specs.Right.{AreAllIn}
+use Rattle.vc_object.specs.ObjectMap.{ObjectMap, links_in}
 use Rattle.vc_object.specs.declared.id.ObjectId.{ObjectId}
-use Rattle.vc_known.specs.Layers.{AddsLayer, AreLayers, IsMetAbove, IsWithin, ReachesLayers, last_roots}
+use Rattle.vc_known.specs.Common.{IsLastCommon}
+use Rattle.vc_known.specs.Known.{Agrees, count_in, layer_in, moments_in}
+use Rattle.vc_known.specs.declared.known.Known.{Known}
+use Rattle.vc_known.specs.Layers.{AddsLayer, AreLayers, IsMetAbove, IsReachedAbove, ReachesLayers, last_roots}
 
 -- what a later moment's roots reach grows
 abbrev pub LayersGrow : Type 0
@@ -17,7 +22,7 @@ LayerIsFirst = (links : ObjectId → Option (List ObjectId)) (moments : List (Li
 -- a walk down to the first layers meets what the roots reach and these have not
 abbrev pub WalkMeetsWhatIsAbove : Type 0
 WalkMeetsWhatIsAbove = (links : ObjectId → Option (List ObjectId)) (moments : List (List ObjectId)) (layers : ObjectId → Option ℕ) → AreLayers links moments layers
-    → (count : ℕ) → count ≤ length moments → (roots : List ObjectId) (x : ObjectId) → IsMetAbove links layers count roots x ↔ (ReachedFrom links roots x × ¬ IsWithin layers count x)
+    → (count : ℕ) → count ≤ length moments → (roots : List ObjectId) (x : ObjectId) → IsMetAbove links layers count roots x ↔ IsReachedAbove links layers count roots x
 
 -- what the roots reach and others do not is what a walk from the roots meets and one from the others does not, both down to the same
 -- layers: the others reach the roots of the last of these
@@ -25,6 +30,11 @@ abbrev pub DifferenceIsAbove : Type 0
 DifferenceIsAbove = (links : ObjectId → Option (List ObjectId)) (moments : List (List ObjectId)) (layers : ObjectId → Option ℕ) → AreLayers links moments layers
     → (count : ℕ) (roots others : List ObjectId) → ReachesLayers links moments count others
     → (x : ObjectId) → IsReachedBeyond links others roots x ↔ (IsMetAbove links layers count roots x × ¬ IsMetAbove links layers count others x)
+
+-- others that reach each of some names reach the roots of the last moment that these have in common
+abbrev pub CommonMomentIsReached : Type 0
+CommonMomentIsReached = (links : ObjectId → Option (List ObjectId)) (moments : List (List ObjectId)) (names others : List ObjectId) (count : ℕ) → IsLastCommon moments names count
+    → ((x : ObjectId) → Contains names x → ReachedFrom links others x) → ReachesLayers links moments count others
 
 -- a walk that goes down to no layer meets all that the roots reach
 abbrev pub WalkDownToNoLayer : Type 0
@@ -45,3 +55,17 @@ LayersStay = (links later : ObjectId → Option (List ObjectId)) (moments : List
 abbrev pub LayersStayWhereLinksGrow : Type 0
 LayersStayWhereLinksGrow = (links later : ObjectId → Option (List ObjectId)) (moments : List (List ObjectId)) (layers : ObjectId → Option ℕ) → AreLayers links moments layers
     → ((x : ObjectId) (ys : List ObjectId) → links x ≡ Some ys → later x ≡ Some ys) → AreLayers later moments layers
+
+-- ---- what is known
+-- the names that are known are those that the last roots reach
+abbrev pub KnownIsReached : Type 0
+KnownIsReached = (objects : ObjectMap) (known : Known) → Agrees objects known → (id : ObjectId) → IsSome (layer_in known id) ↔ ReachedFrom (links_in objects) (last_roots (moments_in known) (count_in known)) id
+
+-- what is known stays so where objects are added
+abbrev pub KnownStays : Type 0
+KnownStays = (objects more : ObjectMap) (known : Known) → AreAllIn more objects → Agrees objects known → Agrees more known
+
+-- and where objects vanish that the last roots do not reach
+abbrev pub KnownOutlivesPrune : Type 0
+KnownOutlivesPrune = (objects fewer : ObjectMap) (known : Known) → Agrees objects known
+    → ((id : ObjectId) → ReachedFrom (links_in objects) (last_roots (moments_in known) (count_in known)) id → fewer id ≡ objects id) → Agrees fewer known

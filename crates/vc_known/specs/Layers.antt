@@ -1,9 +1,9 @@
 -- What the roots of a graph reached at successive moments. Each moment makes a layer, and a name is in the first layer whose roots
 -- reach it. So one table of layers tells of each moment what its roots reached. `moments` gives the roots of each moment, the first
 -- moment first, and `layers` the layer of each name that has one, from 0 on.
-use Rattle.std.specs.Prelude.{◌≡◌, ◌↔◌, ◌<◌, ◌≤◌, ◌++◌, ◌∷◌, [], ℕ, zero, suc, Bool, true, false, not, nat_lt, List, Option, Some, None, IsSome, Contains, filter, get_or, length}
+use Rattle.std.specs.Prelude.{◌≡◌, ◌↔◌, ◌<◌, ◌≤◌, [], ℕ, zero, suc, Bool, false, not, nat_lt, List, Option, Some, None, IsSome, Contains, filter, get_or, length}
 use Rattle.std.specs.Option.{option_map}
-use Rattle.vc_object_map.specs.Graph.{IsClosedUnder, ReachedFrom}
+use Rattle.vc_object_map.specs.Graph.{ReachedFrom}
 
 -- whether a layer is one of the first `count`
 abbrev pub is_below : ℕ → Option ℕ → Bool
@@ -49,3 +49,7 @@ module _ {Id : Type 0} (links : Id → Option (List Id)) where
 
   abbrev pub IsMetAbove : (Id → Option ℕ) → ℕ → List Id → Id → Type 0
   IsMetAbove layers count roots x = ReachedFrom (links_above layers count) (above layers count roots) x
+
+  -- the roots reach the name, and it is in none of the first `count` layers
+  abbrev pub IsReachedAbove : (Id → Option ℕ) → ℕ → List Id → Id → Type 0
+  IsReachedAbove layers count roots x = ReachedFrom links roots x × ¬ IsWithin layers count x

@@ -1,5 +1,5 @@
 //! Laws of the definitions: functions with no work to do, whose contracts are the laws.
-ghost use Rattle.vc_known.specs.Laws.{AddedLayerIsRight, DifferenceIsAbove, LayerIsFirst, LayersGrow, LayersStay, LayersStayWhereLinksGrow, WalkDownToNoLayer, WalkMeetsWhatIsAbove};
+ghost use Rattle.vc_known.specs.Laws.{AddedLayerIsRight, CommonMomentIsReached, DifferenceIsAbove, KnownIsReached, KnownOutlivesPrune, KnownStays, LayerIsFirst, LayersGrow, LayersStay, LayersStayWhereLinksGrow, WalkDownToNoLayer, WalkMeetsWhatIsAbove};
 
 /// What the roots of a moment reach, those of each later one reach too.
 pub fn layers_grow()
@@ -19,9 +19,11 @@ pub fn walks_meet_what_is_above()
 {}
 
 /// What some roots reach and others do not is the difference of two walks down to the first layers, where the others reach the
-/// roots of the last of these: nothing of the layers has to be seen.
+/// roots of the last of these: nothing of the layers has to be seen. They do, where they reach some names of which the last common
+/// moment was asked.
 pub fn the_difference_is_above()
-    ensures { DifferenceIsAbove }
+    ensures difference { DifferenceIsAbove }
+    ensures common { CommonMomentIsReached }
 {}
 
 /// A layer that is added for what new roots reach is right, where these reach the roots of the last moment and nothing that they
@@ -34,4 +36,15 @@ pub fn an_added_layer_is_right()
 pub fn layers_stay()
     ensures kept { LayersStay }
     ensures grown { LayersStayWhereLinksGrow }
+{}
+
+/// A name is known where the roots of the last moment reach it.
+pub fn what_is_known_is_reached()
+    ensures { KnownIsReached }
+{}
+
+/// What is known stays right where objects are added, and where objects vanish that the last roots do not reach.
+pub fn what_is_known_stays()
+    ensures grown { KnownStays }
+    ensures kept { KnownOutlivesPrune }
 {}
