@@ -1,10 +1,9 @@
 -- Layers: what they have, what a walk down to them meets, and when they stay right.
-use Rattle.std.proofs.Common.{◌≡◌, ◌↔◌, ◌≢◌, ◌<◌, ◌≤◌, ◌+◌, ◌⊎◌, inl, inr, ⊎_elim, ◌++◌, ◌∷◌, [], ℕ, zero, suc, Bool, true, false, not, nat_lt, List, Option, Some, None, IsSome, Contains, filter, get_or, length, length-append, sym, ap, subst, ◌∙◌, refl, arith, true≢false, lt-ltb, ltb-true}
+use Rattle.std.proofs.Common.{◌≡◌, ◌↔◌, ◌<◌, ◌≤◌, ◌+◌, ◌⊎◌, inl, inr, ⊎_elim, ◌++◌, ◌∷◌, [], ℕ, zero, suc, Bool, true, false, not, List, Option, Some, None, IsSome, Contains, length, length-append, sym, ap, subst, ◌∙◌, refl, arith, true≢false, lt-ltb, ltb-true}
 use Rattle.std.specs.Option.{option_map}
 use Rattle.std.proofs.Math.ListN.{get_or-append}
 use Rattle.std.proofs.Math.Seq.{get_or-append_seam}
 use Rattle.std.proofs.lemmas.Bool.{cases_lt}
-use Rattle.std.proofs.lemmas.List.Elements.{Contains-get_or}
 use Rattle.vc_lemmas.proofs.Lists.{value_of, some_of}
 use Rattle.vc_object_map.specs.Graph.{IsClosedUnder, IsReachedBeyond, LinksTo, Reaches, ReachedFrom, itself, onward}
 use Rattle.vc_object_map.proofs.WalkLemmas.{ReachedFrom-trans, Reaches-trans}
@@ -96,6 +95,10 @@ module _ {Id : Type 0} (links : Id → Option (List Id)) (moments : List (List I
   -- a name that has a layer is in one of all
   pub IsWithin-all : (x : Id) → IsSome (layers x) → IsWithin layers (length moments) x
   IsWithin-all x some = let n = value_of (layers x) some in record { layer = n.0; has = n.1; first = (are.there x n.0 n.1).0 }
+
+  -- so the last roots reach it
+  pub ReachedFrom-last : (x : Id) → IsSome (layers x) → ReachedFrom links (last_roots moments (length moments)) x
+  ReachedFrom-last x some = (are.exactly (length moments) (omega arith) x).0 (IsWithin-all x some)
 
   module _ (count : ℕ) (moment : count ≤ length moments) where
     -- it leads to no name above
@@ -280,11 +283,8 @@ module _ {Id : Type 0} (links later : Id → Option (List Id)) (moments : List (
 
 -- the same where what the last roots reach stays, and where links are added
 module _ {Id : Type 0} (links later : Id → Option (List Id)) (moments : List (List Id)) (layers : Id → Option ℕ) (are : AreLayers links moments layers) where
-  pub ReachedFrom-last : (x : Id) → IsSome (layers x) → ReachedFrom links (last_roots moments (length moments)) x
-  ReachedFrom-last x some = (are.exactly (length moments) (omega arith) x).0 (IsWithin-all links moments layers are x some)
-
   pub AreLayers-kept : ((x : Id) → ReachedFrom links (last_roots moments (length moments)) x → later x ≡ links x) → AreLayers later moments layers
-  AreLayers-kept kept = AreLayers-later links later moments layers are (λ x some. kept x (ReachedFrom-last x some))
+  AreLayers-kept kept = AreLayers-later links later moments layers are (λ x some. kept x (ReachedFrom-last links moments layers are x some))
 
   pub AreLayers-grown : ((x : Id) (ys : List Id) → links x ≡ Some ys → later x ≡ Some ys) → AreLayers later moments layers
   AreLayers-grown more = AreLayers-later links later moments layers are (λ x some.

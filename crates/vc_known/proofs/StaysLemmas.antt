@@ -1,8 +1,8 @@
 -- What is known of objects stays so where others are added, and where others vanish.
-use Rattle.std.proofs.Common.{◌≡◌, ◌↔◌, ℕ, zero, suc, ◌+◌, ◌<◌, ◌≤◌, List, [], ◌∷◌, length, Option, Some, None, IsSome, Contains, sym, ap, subst, ◌∙◌, refl, arith, true≢false}
+use Rattle.std.proofs.Common.{◌≡◌, ◌↔◌, ℕ, zero, suc, List, [], ◌∷◌, Option, Some, None, IsSome, Contains, sym, ap, subst, ◌∙◌, refl, arith}
 use Rattle.std.specs.Option.{option_map, option_and_then}
 use Rattle.std.proofs.lemmas.List.Elements.{Contains-append_right}
-use Rattle.vc_lemmas.proofs.Lists.{value_of, some_of}
+use Rattle.vc_lemmas.proofs.Lists.{some_of}
 use Rattle.vc_history.proofs.StoredLemmas.{Agrees-more}
 use Rattle.vc_history.specs.Generation.{Agrees as AgreeNumbers, HasGeneration, Leads}
 use Rattle.vc_object.specs.CommitReading.{commit_of}
@@ -15,10 +15,10 @@ use Rattle.vc_object.specs.declared.kind.Kind.{Kind}
 use Rattle.vc_object.specs.declared.kind.Kind.TheVariants as kinds
 use Rattle.vc_object.proofs.ObjectMaps.{links_in-none, links_in-some, parents_in-none, parents_in-some}
 use Rattle.vc_object_map.specs.Graph.{LinksTo, Reaches, ReachedFrom, itself, onward}
-use Rattle.vc_known.proofs.KnownLemmas.{is_some-mapped, mapped}
+use Rattle.vc_known.proofs.KnownLemmas.{mapped}
 use Rattle.vc_known.proofs.LayerLemmas.{AreLayers-grown, AreLayers-kept, IsWithin-all, IsWithin-onward, ReachedFrom-last}
-use Rattle.vc_known.specs.Known.{Agrees, IsOfKind, count_in, generation_in, kind_in, layer_in, moments_in, place_in}
-use Rattle.vc_known.specs.Layers.{IsWithin, last_roots}
+use Rattle.vc_known.specs.Known.{Agrees, count_in, generation_in, kind_in, layer_in, moments_in, place_in}
+use Rattle.vc_known.specs.Layers.{last_roots}
 use Rattle.vc_known.specs.declared.known.Known.{Known}
 use Rattle.vc_known.specs.declared.known.Place.{Place}
 

@@ -3,15 +3,16 @@
 
 mod above;
 mod known;
-mod layer;
 mod laws;
+mod layer;
 mod numbers;
 mod seen;
 mod walk;
 
 pub use known::Known;
 pub use laws::{
-    a_layer_is_the_first, an_added_layer_is_right, layers_grow, layers_stay, the_difference_is_above,
-    walks_meet_what_is_above, what_is_known_is_reached, what_is_known_stays,
+    a_layer_is_the_first, an_added_layer_is_right, layers_grow, layers_stay,
+    the_difference_is_above, walks_meet_what_is_above, what_is_known_is_reached,
+    what_is_known_stays,
 };
 pub use seen::{Kinds, Seen};

@@ -1,4 +1,4 @@
-use Rattle.std.proofs.Common.{◌≡◌, ◌∷◌, [], ◌++◌, Contains, Some, None, IsSome, ap, sym, ◌∙◌, refl, arith, rules, subst, take, length, append_assoc}
+use Rattle.std.proofs.Common.{◌≡◌, ◌++◌, None, ap, sym, ◌∙◌, refl, arith, rules, subst, take, length}
 use Rattle.indexmap.specs.IndexSet.{insert_all}
 use Rattle.std.proofs.lemmas.Grind.{common_steps}
 use Rattle.vc_graph.specs.GraphFault.{IsTold}
@@ -6,9 +6,9 @@ use Rattle.vc_graph.specs.declared.fault.GraphFault.TheVariants.{Store}
 use Rattle.vc_object.proofs.IdLemmas.{id_eq-same}
 use Rattle.vc_object.proofs.ObjectMaps.{links_in-none}
 use Rattle.vc_object.specs.ObjectId.{id_eq}
-use Rattle.vc_object.specs.ObjectMap.{ObjectMap, links_in}
+use Rattle.vc_object.specs.ObjectMap.{links_in}
 use Rattle.vc_object_map.proofs.FaultLemmas.{IsMet-from_refused}
-use Rattle.vc_object_map.proofs.KnownLemmas.{grown-inserted, take-inserted}
+use Rattle.vc_object_map.proofs.KnownLemmas.{grown-inserted}
 use Rattle.vc_object_map.proofs.WalkLemmas.{Contains-from_slice_get, Walks, Walks-start, Walks-step, insert_all-prefix, walked, walked-followed}
 use Rattle.vc_object_map.specs.Graph.{ReachedFrom}
 use Rattle.std.proofs.Math.Seq.{take-append_seam}

@@ -1,4 +1,4 @@
-use Rattle.std.proofs.Common.{rules, ◌≡◌, ◌↔◌, ◌∙◌, [], ◌++◌, Contains, IsSome, ap, sym, subst, arith, length}
+use Rattle.std.proofs.Common.{◌≡◌, ◌↔◌, ◌++◌, Contains, IsSome, arith, length}
 use Rattle.std.proofs.lemmas.Grind.{common_steps}
 use Rattle.std.proofs.lemmas.List.Elements.{Contains-append_right}
 use Rattle.vc_graph.proofs.FaultLemmas.{IsTold-more}

@@ -1,15 +1,14 @@
-use Rattle.std.proofs.Common.{rules, ◌≡◌, ◌∙◌, ◌-◌, [], Contains, true, false, true≢false, sym, refl, subst, arith, inl, inr, ap, length}
+use Rattle.std.proofs.Common.{rules, ◌≡◌, ◌∙◌, Contains, true, false, true≢false, sym, subst, arith, inl, inr}
 use Rattle.std.proofs.Math.ListN.{length-map}
 use Rattle.std.proofs.lemmas.Bool.{cases_lt}
 use Rattle.vc_known.specs.Common.{HasMoment}
-use Rattle.vc_known.specs.Known.{count_in, moments_in}
-use Rattle.vc_known.specs.Layers.{last_roots}
+use Rattle.vc_known.specs.Known.{moments_in}
 use Rattle.vc_known.proofs.known.Known.last_common.Goals as goal
 
 pub loop-count-init : goal.loop-count-init
 loop-count-init c =
     let long = length-map c.args.self.now.moments.items (λ roots. roots.items) in
-    record { moment = omega (arith, c.len-count.ensures.len, long); last = λ more above fits has. omega (arith, above, fits, c.len-count.ensures.len, long) }
+    record { moment = omega (arith, c.len-count.ensures, long); last = λ more above fits has. omega (arith, above, fits, c.len-count.ensures, long) }
 
 pub loop-count-preserved : goal.loop-count-preserved
 loop-count-preserved c =

@@ -1,4 +1,4 @@
-use Rattle.std.proofs.Common.{◌≡◌, ◌∙◌, ◌-◌, ap, arith}
+use Rattle.std.proofs.Common.{◌∙◌, ◌-◌, ap, arith}
 use Rattle.std.proofs.Math.ListN.{length-map}
 use Rattle.vc_known.proofs.KnownLemmas.{last_roots-at}
 use Rattle.vc_known.proofs.known.Known.last_roots.Goals as goal

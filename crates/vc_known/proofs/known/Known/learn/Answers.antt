@@ -1,5 +1,4 @@
-use Rattle.std.proofs.Common.{rules, ◌≡◌, ◌↔◌, [], ◌∷◌, IsSome, ⊎_elim, sym, subst}
-use Rattle.vc_object.specs.ObjectMap.{parents_in}
+use Rattle.std.proofs.Common.{rules, IsSome, ⊎_elim}
 use Rattle.vc_lemmas.proofs.Lists.{value_of, some_of}
 use Rattle.vc_known.proofs.StaysLemmas.{known-ancestor}
 use Rattle.vc_known.specs.Known.{generation_in, layer_in}

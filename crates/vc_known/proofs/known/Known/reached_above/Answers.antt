@@ -1,7 +1,5 @@
-use Rattle.std.proofs.Common.{rules, ◌≡◌, ◌↔◌, ◌∙◌, [], ◌++◌, Contains, IsSome, ap, sym, subst, arith, length}
+use Rattle.std.proofs.Common.{arith}
 use Rattle.std.proofs.lemmas.Grind.{common_steps}
-use Rattle.vc_object.specs.ObjectMap.{links_in}
-use Rattle.vc_object.specs.declared.id.ObjectId.{ObjectId}
 use Rattle.vc_lemmas.proofs.Lists.{value_of}
 use Rattle.vc_known.proofs.AddedLemmas.{closed_above, met-both}
 use Rattle.vc_known.proofs.KindLemmas.{links-from_IsOfKind}
@@ -23,8 +21,8 @@ returns-clause-closed g c honest agrees =
     let reached = rw c.new-walked.ensures.met at (c.in_ok-walk_down.ensures.reached honest) in
     let whole = c.in_ok-walk_down.ensures.whole honest in
     closed_above objects c.args.self.now agrees c.args.count c.requires c.args.roots.now (λ x h.
-        let kind = value_of (kind_met c.walk_down.new.walked x) (whole.read x ((reached x).1 h)) in
-        links-from_IsOfKind objects x kind.0 (whole.kinds x kind.0 kind.1))
+    let kind = value_of (kind_met c.walk_down.new.walked x) (whole.read x ((reached x).1 h)) in
+    links-from_IsOfKind objects x kind.0 (whole.kinds x kind.0 kind.1))
 
 pub returns-in_err-walk_down-clause-refused : goal.returns-in_err-walk_down-clause-refused
 returns-in_err-walk_down-clause-refused g c =
