@@ -10,7 +10,7 @@ use Rattle.std.proofs.lemmas.List.Elements.{Contains-append_left, Contains-appen
 use Rattle.vc_object_map.proofs.WalkLemmas.{ReachedFrom-append_right, ReachedFrom-trans}
 use Rattle.vc_object_map.specs.Graph.{IsClosedUnder, ReachedFrom, itself}
 use Rattle.vc_known.proofs.KindLemmas.{links-from_IsOfKind}
-use Rattle.vc_known.proofs.KnownLemmas.{mapped, mapped_none}
+use Rattle.vc_known.proofs.KnownLemmas.{kind-from_place, no_place, place-from_kind, place-from_layer}
 use Rattle.vc_known.proofs.LayerLemmas.{AreLayers-added, Contains-from_above, IsMetAbove-both, IsMetAbove-reached, Reaches-from_above, not_within, not_within-none, within_cases}
 use Rattle.vc_known.specs.Known.{Agrees, IsOfKind, ReachesLast, count_in, generation_in, kind_in, layer_in, moments_in, place_in}
 use Rattle.vc_known.specs.Layers.{AddsLayer, AreLayers, IsMetAbove, IsWithin, above, links_above}
@@ -47,23 +47,23 @@ module _ (objects : ObjectMap) (old new : Known) (agrees : Agrees objects old) (
   module _ (places : Places (count_in old) met kinds (place_in old) (place_in new)) where
     -- what has a place now had it, or was met
     place_cases : (x : ObjectId) (place : Place) → place_in new x ≡ Some place → (place_in old x ≡ Some place) ⊎ (Contains met x × (kind : Kind) × (kinds x ≡ Some kind) × (place_at (count_in old) kind ≡ place))
-    place_cases x place is = ⊎_elim inl (λ h. let k = mapped (place_at (count_in old)) (kinds x) place h.1 in inr (h.0, k.0, k.1, k.2)) (places.only x place is)
+    place_cases x place is = ⊎_elim inl (λ h. let k = kind-from_place (count_in old) (kinds x) place h.1 in inr (h.0, k.0, k.1, k.2)) (places.only x place is)
 
     adds : AddsLayer (links_in objects) (moments_in old) roots (layer_in old) (layer_in new)
     adds = record {
       kept = λ x layer is.
-          let p = mapped (λ (place : Place). place.layer) (place_in old x) layer is in
+          let p = place-from_layer (place_in old x) layer is in
           ap (option_map (λ (place : Place). place.layer)) (places.kept x p.0 p.1) ∙ ap Some p.2;
       added = λ x layer none. (
         λ is.
-            let p = mapped (λ (place : Place). place.layer) (place_in new x) layer is in
-            let absent : place_in old x ≡ None = mapped_none (λ (place : Place). place.layer) (place_in old x) none in
+            let p = place-from_layer (place_in new x) layer is in
+            let absent : place_in old x ≡ None = no_place (place_in old x) none in
             ⊎_elim
             (λ was. let no : None ≡ Some p.0 = sym absent ∙ was in absurd (cc))
             (λ h. (sym p.2 ∙ ap (λ (place : Place). place.layer) (sym h.3), ((met-both objects old agrees (count_in old) (omega arith) roots met exactly x).0 h.0).0))
             (place_cases x p.0 p.1),
         λ h.
-            let absent : place_in old x ≡ None = mapped_none (λ (place : Place). place.layer) (place_in old x) none in
+            let absent : place_in old x ≡ None = no_place (place_in old x) none in
             let at : Contains met x = (met-both objects old agrees (count_in old) (omega arith) roots met exactly x).1 (h.1, not_within-none (layer_in old) x (count_in old) none) in
             let p = value_of (place_in new x) (places.placed x at (read x at)) in
             ⊎_elim
@@ -75,7 +75,7 @@ module _ (objects : ObjectMap) (old new : Known) (agrees : Agrees objects old) (
 
     kinds_now : (x : ObjectId) (kind : Kind) → kind_in new x ≡ Some kind → IsOfKind objects x kind
     kinds_now x kind is =
-        let p = mapped (λ (place : Place). place.kind) (place_in new x) kind is in
+        let p = place-from_kind (place_in new x) kind is in
         ⊎_elim
         (λ was. agrees.kinds x kind (ap (option_map (λ (place : Place). place.kind)) was ∙ ap Some p.2))
         (λ h. subst (λ k. IsOfKind objects x k) (ap (λ (place : Place). place.kind) h.3 ∙ p.2) (right x h.1 h.2))

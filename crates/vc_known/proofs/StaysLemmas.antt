@@ -15,7 +15,7 @@ use Rattle.vc_object.specs.declared.kind.Kind.{Kind}
 use Rattle.vc_object.specs.declared.kind.Kind.TheVariants as kinds
 use Rattle.vc_object.proofs.ObjectMaps.{links_in-none, links_in-some, parents_in-none, parents_in-some}
 use Rattle.vc_object_map.specs.Graph.{LinksTo, Reaches, ReachedFrom, itself, onward}
-use Rattle.vc_known.proofs.KnownLemmas.{mapped}
+use Rattle.vc_known.proofs.KnownLemmas.{place-from_kind}
 use Rattle.vc_known.proofs.LayerLemmas.{AreLayers-grown, AreLayers-kept, IsWithin-all, IsWithin-onward, ReachedFrom-last}
 use Rattle.vc_known.specs.Known.{Agrees, count_in, generation_in, kind_in, layer_in, moments_in, place_in}
 use Rattle.vc_known.specs.Layers.{last_roots}
@@ -120,7 +120,7 @@ module _ (objects : ObjectMap) (known : Known) (agrees : Agrees objects known) w
 
   layer-from_kind : (id : ObjectId) (kind : Kind) → kind_in known id ≡ Some kind → IsSome (layer_in known id)
   layer-from_kind id kind is =
-      let p = mapped (λ (place : Place). place.kind) (place_in known id) kind is in
+      let p = place-from_kind (place_in known id) kind is in
       some_of (layer_in known id) p.0.layer (ap (option_map (λ (place : Place). place.layer)) p.1)
 
   -- it stays so where objects are added
