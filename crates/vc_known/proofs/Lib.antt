@@ -3,4 +3,5 @@ pub mod KindLemmas
 pub mod KnownLemmas
 pub mod LayerLemmas
 pub mod PlaceLemmas
+pub mod ShowsLemmas
 pub mod StaysLemmas

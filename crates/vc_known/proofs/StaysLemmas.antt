@@ -1,5 +1,5 @@
 -- What is known of objects stays so where others are added, and where others vanish.
-use Rattle.std.proofs.Common.{◌≡◌, ◌↔◌, ℕ, zero, suc, List, [], ◌∷◌, Option, Some, None, IsSome, Contains, sym, ap, subst, ◌∙◌, refl, arith}
+use Rattle.std.proofs.Common.{◌≡◌, ◌↔◌, ◌⊎◌, inl, inr, ⊎_elim, ℕ, zero, suc, List, [], ◌∷◌, Option, Some, None, IsSome, Contains, sym, ap, subst, ◌∙◌, refl, arith}
 use Rattle.std.specs.Option.{option_map, option_and_then}
 use Rattle.std.proofs.lemmas.List.Elements.{Contains-append_right}
 use Rattle.vc_lemmas.proofs.Lists.{some_of}
@@ -16,9 +16,9 @@ use Rattle.vc_object.specs.declared.kind.Kind.TheVariants as kinds
 use Rattle.vc_object.proofs.ObjectMaps.{links_in-none, links_in-some, parents_in-none, parents_in-some}
 use Rattle.vc_object_map.specs.Graph.{LinksTo, Reaches, ReachedFrom, itself, onward}
 use Rattle.vc_known.proofs.KnownLemmas.{place-from_kind}
-use Rattle.vc_known.proofs.LayerLemmas.{AreLayers-grown, AreLayers-kept, IsWithin-all, IsWithin-onward, ReachedFrom-last}
-use Rattle.vc_known.specs.Known.{Agrees, count_in, generation_in, kind_in, layer_in, moments_in, place_in}
-use Rattle.vc_known.specs.Layers.{last_roots}
+use Rattle.vc_known.proofs.LayerLemmas.{AreLayers-grown, AreLayers-kept, IsWithin-all, IsWithin-onward, ReachedFrom-last, ReachedFrom-within, not_within, within_cases}
+use Rattle.vc_known.specs.Known.{Agrees, ReachesLast, count_in, generation_in, kind_in, layer_in, moments_in, place_in}
+use Rattle.vc_known.specs.Layers.{IsWithin, last_roots}
 use Rattle.vc_known.specs.declared.known.Known.{Known}
 use Rattle.vc_known.specs.declared.known.Place.{Place}
 
@@ -111,7 +111,18 @@ module _ (objects : ObjectMap) (known : Known) (agrees : Agrees objects known) w
     λ r. let h = (agrees.layers.exactly (count_in known) (omega arith) id).1 r in some_of (layer_in known id) h.layer h.has,
   )
 
-  -- and so is each ancestor of it
+  -- what roots reach is known or above, where they reach the last roots
+  pub reached-both : (roots : List ObjectId) → ReachesLast objects known roots
+      → (id : ObjectId) → ReachedFrom (links_in objects) roots id ↔ (IsSome (layer_in known id) ⊎ (ReachedFrom (links_in objects) roots id × ¬ IsWithin (layer_in known) (count_in known) id))
+  reached-both roots reach id = (
+    λ r. ⊎_elim (λ h. inl (some_of (layer_in known id) h.layer h.has)) (λ out. inr (r, not_within (layer_in known) id (count_in known) out)) (within_cases (layer_in known) id (count_in known)),
+    ⊎_elim
+        (λ some. ReachedFrom-within (links_in objects) (moments_in known) (layer_in known) agrees.layers (count_in known) roots reach id
+        (IsWithin-all (links_in objects) (moments_in known) (layer_in known) agrees.layers id some))
+        (λ h. h.0),
+  )
+
+  -- each ancestor of what is known is known
   pub known-ancestor : (root : ObjectId) → IsSome (layer_in known root) → (id : ObjectId) → Reaches (parents_in objects) root id → IsSome (layer_in known id)
   known-ancestor root some id way =
       let h = IsWithin-onward (links_in objects) (moments_in known) (layer_in known) agrees.layers (count_in known) (omega arith)

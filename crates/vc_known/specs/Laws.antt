@@ -1,11 +1,11 @@
 -- The laws of layers.
-use Rattle.std.specs.Prelude.{◌≡◌, ◌↔◌, ◌<◌, ◌≤◌, ◌+◌, ◌++◌, ◌∷◌, [], ℕ, List, Option, Some, IsSome, Contains, length}
+use Rattle.std.specs.Prelude.{◌≡◌, ◌↔◌, ◌⊎◌, ◌<◌, ◌≤◌, ◌+◌, ◌++◌, ◌∷◌, [], ℕ, List, Option, Some, IsSome, Contains, length}
 use Rattle.vc_object_map.specs.Graph.{IsClosedUnder, IsReachedBeyond, ReachedFrom}
 use Rattle.vc_history.specs.Right.{AreAllIn}
 use Rattle.vc_object.specs.ObjectMap.{ObjectMap, links_in}
 use Rattle.vc_object.specs.declared.id.ObjectId.{ObjectId}
 use Rattle.vc_known.specs.Common.{IsLastCommon}
-use Rattle.vc_known.specs.Known.{Agrees, count_in, layer_in, moments_in}
+use Rattle.vc_known.specs.Known.{Agrees, ReachesLast, count_in, layer_in, moments_in}
 use Rattle.vc_known.specs.declared.known.Known.{Known}
 use Rattle.vc_known.specs.Layers.{AddsLayer, AreLayers, IsMetAbove, IsReachedAbove, ReachesLayers, last_roots}
 
@@ -60,6 +60,11 @@ LayersStayWhereLinksGrow = (links later : ObjectId → Option (List ObjectId)) (
 -- the names that are known are those that the last roots reach
 abbrev pub KnownIsReached : Type 0
 KnownIsReached = (objects : ObjectMap) (known : Known) → Agrees objects known → (id : ObjectId) → IsSome (layer_in known id) ↔ ReachedFrom (links_in objects) (last_roots (moments_in known) (count_in known)) id
+
+-- what roots reach is known or above what is known, where they reach the roots of the last moment
+abbrev pub ReachedIsKnownOrAbove : Type 0
+ReachedIsKnownOrAbove = (objects : ObjectMap) (known : Known) (roots : List ObjectId) → Agrees objects known → ReachesLast objects known roots
+    → (id : ObjectId) → ReachedFrom (links_in objects) roots id ↔ (IsSome (layer_in known id) ⊎ IsReachedAbove (links_in objects) (layer_in known) (count_in known) roots id)
 
 -- what is known stays so where objects are added
 abbrev pub KnownStays : Type 0

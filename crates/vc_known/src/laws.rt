@@ -1,5 +1,5 @@
 //! Laws of the definitions: functions with no work to do, whose contracts are the laws.
-ghost use Rattle.vc_known.specs.Laws.{AddedLayerIsRight, CommonMomentIsReached, DifferenceIsAbove, KnownIsReached, KnownOutlivesPrune, KnownStays, LayerIsFirst, LayersGrow, LayersStay, LayersStayWhereLinksGrow, WalkDownToNoLayer, WalkMeetsWhatIsAbove};
+ghost use Rattle.vc_known.specs.Laws.{AddedLayerIsRight, CommonMomentIsReached, DifferenceIsAbove, KnownIsReached, KnownOutlivesPrune, KnownStays, LayerIsFirst, LayersGrow, LayersStay, LayersStayWhereLinksGrow, ReachedIsKnownOrAbove, WalkDownToNoLayer, WalkMeetsWhatIsAbove};
 
 /// What the roots of a moment reach, those of each later one reach too.
 pub fn layers_grow()
@@ -38,9 +38,10 @@ pub fn layers_stay()
     ensures grown { LayersStayWhereLinksGrow }
 {}
 
-/// A name is known where the roots of the last moment reach it.
+/// A name is known where the roots of the last moment reach it. What later roots reach is known or above what is known.
 pub fn what_is_known_is_reached()
-    ensures { KnownIsReached }
+    ensures known { KnownIsReached }
+    ensures later { ReachedIsKnownOrAbove }
 {}
 
 /// What is known stays right where objects are added, and where objects vanish that the last roots do not reach.

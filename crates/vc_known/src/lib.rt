@@ -7,6 +7,7 @@ mod laws;
 mod layer;
 mod numbers;
 mod seen;
+mod stored;
 mod walk;
 
 pub use known::Known;
