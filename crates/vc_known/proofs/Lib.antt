@@ -1,4 +1,5 @@
 pub mod AddedLemmas
+pub mod CommonLemmas
 pub mod KindLemmas
 pub mod KnownLemmas
 pub mod LayerLemmas

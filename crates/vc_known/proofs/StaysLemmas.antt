@@ -52,7 +52,7 @@ parents_among kinds.Commit body ps is y at = by (commit_of body) is
         Contains-append_right (c.tree ∷ []) c.parents y (subst (λ l. Contains l y) (sym same) at)
 
 module _ (objects : ObjectMap) where
-  LinksTo-parent : (x y : ObjectId) → LinksTo (parents_in objects) x y → LinksTo (links_in objects) x y
+  pub LinksTo-parent : (x y : ObjectId) → LinksTo (parents_in objects) x y → LinksTo (links_in objects) x y
   LinksTo-parent x y l = by (objects x) refl
     where
       by : (o : Option StoredObject) → objects x ≡ o → LinksTo (links_in objects) x y

@@ -1,11 +1,9 @@
 //! What the roots of a store reached at successive moments, in one table, so that a walk needs to see only what came since.
 #![tactic(auto)]
 
-mod above;
 mod known;
 mod laws;
 mod layer;
-mod numbers;
 mod seen;
 mod stored;
 mod walk;
