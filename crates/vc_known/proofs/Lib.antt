@@ -4,5 +4,6 @@ pub mod KindLemmas
 pub mod KnownLemmas
 pub mod LayerLemmas
 pub mod PlaceLemmas
+pub mod ReachLemmas
 pub mod ShowsLemmas
 pub mod StaysLemmas

@@ -2,7 +2,7 @@
 use Rattle.std.specs.Prelude.{◌≡◌, ◌↔◌, ◌⊎◌, ◌<◌, ◌≤◌, ◌+◌, ◌++◌, ◌∷◌, [], ℕ, List, Option, Some, IsSome, Contains, length}
 use Rattle.vc_object_map.specs.Graph.{IsClosedUnder, IsReachedBeyond, ReachedFrom}
 use Rattle.vc_history.specs.Right.{AreAllIn}
-use Rattle.vc_object.specs.ObjectMap.{ObjectMap, links_in}
+use Rattle.vc_object.specs.ObjectMap.{ObjectMap, links_in, parents_in}
 use Rattle.vc_object.specs.declared.id.ObjectId.{ObjectId}
 use Rattle.vc_known.specs.Common.{IsLastCommon}
 use Rattle.vc_known.specs.Known.{Agrees, ReachesLast, count_in, layer_in, moments_in}
@@ -74,3 +74,27 @@ KnownStays = (objects more : ObjectMap) (known : Known) → AreAllIn more object
 abbrev pub KnownOutlivesPrune : Type 0
 KnownOutlivesPrune = (objects fewer : ObjectMap) (known : Known) → Agrees objects known
     → ((id : ObjectId) → ReachedFrom (links_in objects) (last_roots (moments_in known) (count_in known)) id → fewer id ≡ objects id) → Agrees fewer known
+
+-- ---- roots that reach those of the last moment
+-- ones of which these are ancestors, or which they are: refs that only moved to descendants
+abbrev pub DescendantsReachLast : Type 0
+DescendantsReachLast = (objects : ObjectMap) (known : Known) (roots : List ObjectId)
+    → ((x : ObjectId) → Contains (last_roots (moments_in known) (count_in known)) x → ReachedFrom (parents_in objects) roots x) → ReachesLast objects known roots
+
+-- the roots of the last moment themselves
+abbrev pub AddedReachLast : Type 0
+AddedReachLast = (objects : ObjectMap) (known : Known) (before : List (List ObjectId)) (roots : List ObjectId) → moments_in known ≡ before ++ roots ∷ [] → ReachesLast objects known roots
+
+-- ones that reach each of some that do
+abbrev pub LaterReachLast : Type 0
+LaterReachLast = (objects : ObjectMap) (known : Known) (roots later : List ObjectId) → ReachesLast objects known roots
+    → ((x : ObjectId) → Contains roots x → ReachedFrom (links_in objects) later x) → ReachesLast objects known later
+
+-- the same ones where objects are added
+abbrev pub GrownReachLast : Type 0
+GrownReachLast = (objects more : ObjectMap) (known : Known) (roots : List ObjectId) → AreAllIn more objects → ReachesLast objects known roots → ReachesLast more known roots
+
+-- and where objects vanish that they do not reach
+abbrev pub PrunedReachLast : Type 0
+PrunedReachLast = (objects fewer : ObjectMap) (known : Known) (roots : List ObjectId)
+    → ((id : ObjectId) → ReachedFrom (links_in objects) roots id → fewer id ≡ objects id) → ReachesLast objects known roots → ReachesLast fewer known roots

@@ -1,5 +1,5 @@
 //! Laws of the definitions: functions with no work to do, whose contracts are the laws.
-ghost use Rattle.vc_known.specs.Laws.{AddedLayerIsRight, CommonMomentIsReached, DifferenceIsAbove, KnownIsReached, KnownOutlivesPrune, KnownStays, LayerIsFirst, LayersGrow, LayersStay, LayersStayWhereLinksGrow, ReachedIsKnownOrAbove, WalkDownToNoLayer, WalkMeetsWhatIsAbove};
+ghost use Rattle.vc_known.specs.Laws.{AddedLayerIsRight, AddedReachLast, CommonMomentIsReached, DescendantsReachLast, DifferenceIsAbove, GrownReachLast, KnownIsReached, KnownOutlivesPrune, KnownStays, LaterReachLast, LayerIsFirst, LayersGrow, LayersStay, LayersStayWhereLinksGrow, PrunedReachLast, ReachedIsKnownOrAbove, WalkDownToNoLayer, WalkMeetsWhatIsAbove};
 
 /// What the roots of a moment reach, those of each later one reach too.
 pub fn layers_grow()
@@ -48,4 +48,15 @@ pub fn what_is_known_is_reached()
 pub fn what_is_known_stays()
     ensures grown { KnownStays }
     ensures kept { KnownOutlivesPrune }
+{}
+
+/// Which roots reach those of the last moment, so that the next layer may be added for them: those of which these are ancestors, as where
+/// refs only move to descendants, the roots of the last moment themselves, and roots that reach others that do. They do so still where
+/// objects are added, and where objects vanish that they do not reach.
+pub fn roots_that_moved_forward_reach()
+    ensures descendants { DescendantsReachLast }
+    ensures added { AddedReachLast }
+    ensures later { LaterReachLast }
+    ensures grown { GrownReachLast }
+    ensures pruned { PrunedReachLast }
 {}

@@ -11,7 +11,7 @@ mod walk;
 pub use known::Known;
 pub use laws::{
     a_layer_is_the_first, an_added_layer_is_right, layers_grow, layers_stay,
-    the_difference_is_above, walks_meet_what_is_above, what_is_known_is_reached,
-    what_is_known_stays,
+    roots_that_moved_forward_reach, the_difference_is_above, walks_meet_what_is_above,
+    what_is_known_is_reached, what_is_known_stays,
 };
 pub use seen::{Kinds, Seen};
