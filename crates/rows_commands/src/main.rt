@@ -157,7 +157,11 @@ where
         stream: input,
         length: None,
     };
-    let status = run(rt, &words, input, &mut output, &mut faults);
+    let progress = Faults {
+        stream: Vec::new(rt.alloc()),
+        is_terminal: false,
+    };
+    let status = run(rt, &words, input, &mut output, &mut faults, progress);
     print_text(&output, out)?;
     print_text(&faults.stream, out)?;
     if status != 0 {

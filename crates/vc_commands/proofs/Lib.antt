@@ -1,3 +1,4 @@
 mod PerformLemmas
+mod RemoteLemmas
 mod RunLemmas
 mod TellingLemmas

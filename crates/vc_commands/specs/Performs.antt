@@ -8,6 +8,8 @@ use Rattle.vc_arguments.specs.declared.arguments.LocalTask.TheVariants as local
 use Rattle.vc_arguments.specs.declared.arguments.Task.{Task}
 use Rattle.vc_arguments.specs.declared.arguments.Words.{Words}
 use Rattle.vc_arguments.specs.declared.arguments.Task.TheVariants.{CatFile, HashObject, Init, Local, MergeBase, Prune, Remote, RevList, RevParse, ShowRef, World}
+use Rattle.vc_arguments.specs.declared.arguments.RemoteTask.{RemoteTask}
+use Rattle.vc_arguments.specs.declared.arguments.RemoteTask.TheVariants.{Fetch, Push, Serve}
 use Rattle.vc_cli.specs.Failure.{IsFault, status_of}
 use Rattle.vc_cli.specs.Printed.{AppendsFront, PrintsFront, id_line}
 use Rattle.vc_cli.specs.Revisions.{IsOfTerms}
@@ -38,6 +40,7 @@ use Rattle.vc_rules.specs.Git.{git}
 use Rattle.vc_working.specs.CloneWords.{branch_ref}
 use Rattle.vc_working.specs.StatusLines.{PrintsStatus, TellsStatus}
 use Rattle.vc_working.specs.Trees.{ChecksOutTree, IsOfStatus, LeavesTree, OtherTreesStay, RefusesCheckoutTree, TreeStays, Trees}
+use Rattle.vc_commands.specs.Remote.{FetchesFrom, Processes, PushesTo, TakesUp}
 
 -- what a command finds beside stores, work trees and output: whether files and work trees are what they claim; which paths a work tree can hold, and where its
 -- store lies in it; what the files to be read have, and standard input
@@ -200,6 +203,13 @@ NoTree Ends was now done = Ends done × (now ≡ was)
 abbrev pub NoStore : (Result (Unit {0}) Failure → Type 0) → (old new : Contents) → (was now : Trees) → Result (Unit {0}) Failure → Type 0
 NoStore Ends old new was now done = Ends done × (new ≡ old) × (now ≡ was)
 
+-- of those that ask another process; a store that is to be served is so after the run
+module _ {P A : Type 0} (others : Processes P A) (honest : Type 0) (store : List ℕ) (words : List (List ℕ)) (old new : Contents) (before after : Option (List ℕ)) where
+  abbrev pub PerformsRemote : RemoteTask → Result Bool Failure → Type 0
+  PerformsRemote (Serve serving) = Does (TakesUp (others.is_to_serve store serving) old new before after)
+  PerformsRemote (Fetch port timeout) = Does (FetchesFrom honest store old new before after others (record { port = port; timeout = timeout }))
+  PerformsRemote (Push port timeout atomic) = PushesTo honest store old new before after others (record { port = port; timeout = timeout }) atomic words
+
 module _ {F : Type 0} (content : F → FileMap) (is_durable : F → Type 0) (found : Found) (lists : Lists) (store : List ℕ) (old new : Contents) (was now : Trees) (before after : Option (List ℕ)) where
   -- of a clone's
   abbrev pub PerformsLocal : LocalTask → Result (Unit {0}) Failure → Type 0
@@ -213,17 +223,18 @@ module _ {F : Type 0} (content : F → FileMap) (is_durable : F → Type 0) (fou
   PerformsLocal (local.Checkout work revision) = Brings found store work.now old new was now revision.now
   PerformsLocal (local.Status work) = ShowsStatus found store work.now old new was now before after
 
-  -- Of each subcommand that asks no other process. What `serve`, `fetch` and `push` do is said of the calls that they make.
-  abbrev pub Performs : Task → Result Bool Failure → Type 0
-  Performs Init = Does (NoTree (Inits found.honest store old new) was now)
-  Performs (HashObject kind write file) = Does (NoTree (HashesFrom found.honest store old new before after found.bodies found.input kind write file) was now)
-  Performs (CatFile part revision) = Does (NoTree (Looks found.honest old new before after (PrintsNamed (old store) revision.now part) (IsOfNamed (old store) revision.now)) was now)
-  Performs ShowRef = Does (NoTree (Looks found.honest old new before after (PrintsRefs (refs (old store))) (IsOfList (old store))) was now)
-  Performs (MergeBase first second) = λ result. PrintsMergeBase found.honest store old new before after first.now second.now result × (now ≡ was)
-  Performs (RevParse revision) = Does (NoTree (Looks found.honest old new before after (PrintsValue (old store) revision.now) (IsOfPrinting (old store) revision.now)) was now)
-  Performs RevList = Does (NoTree (Looks found.honest old new before after (PrintsSelected (old store) lists.terms.now) (IsOfTerms (old store) lists.terms.now)) was now)
-  Performs (Prune true) = Does (NoTree (Looks found.honest old new before after (PrintsGoing (old store)) (IsOfPrune (old store))) was now)
-  Performs (Prune false) = Does (NoTree (PrunesStore found.honest store old new before after) was now)
-  Performs (Local task) = Does (PerformsLocal task)
-  Performs (World file) = Does (NoStore (Reads (found.bodies file.now) before after (λ script. PrintsPlayed script (Appends before after)) IsUnread IsOfScript (λ script. PrintsFront (PrintsFirst script) before after)) old new was now)
-  Performs (Remote task) = λ result. Unit {0}
+  -- of each subcommand
+  module _ {P A : Type 0} (others : Processes P A) where
+    abbrev pub Performs : Task → Result Bool Failure → Type 0
+    Performs Init = Does (NoTree (Inits found.honest store old new) was now)
+    Performs (HashObject kind write file) = Does (NoTree (HashesFrom found.honest store old new before after found.bodies found.input kind write file) was now)
+    Performs (CatFile part revision) = Does (NoTree (Looks found.honest old new before after (PrintsNamed (old store) revision.now part) (IsOfNamed (old store) revision.now)) was now)
+    Performs ShowRef = Does (NoTree (Looks found.honest old new before after (PrintsRefs (refs (old store))) (IsOfList (old store))) was now)
+    Performs (MergeBase first second) = λ result. PrintsMergeBase found.honest store old new before after first.now second.now result × (now ≡ was)
+    Performs (RevParse revision) = Does (NoTree (Looks found.honest old new before after (PrintsValue (old store) revision.now) (IsOfPrinting (old store) revision.now)) was now)
+    Performs RevList = Does (NoTree (Looks found.honest old new before after (PrintsSelected (old store) lists.terms.now) (IsOfTerms (old store) lists.terms.now)) was now)
+    Performs (Prune true) = Does (NoTree (Looks found.honest old new before after (PrintsGoing (old store)) (IsOfPrune (old store))) was now)
+    Performs (Prune false) = Does (NoTree (PrunesStore found.honest store old new before after) was now)
+    Performs (Local task) = Does (PerformsLocal task)
+    Performs (World file) = Does (NoStore (Reads (found.bodies file.now) before after (λ script. PrintsPlayed script (Appends before after)) IsUnread IsOfScript (λ script. PrintsFront (PrintsFirst script) before after)) old new was now)
+    Performs (Remote task) = λ result. PerformsRemote others found.honest store (map (λ word. word.now) lists.items.now) old new before after task result × (now ≡ was)

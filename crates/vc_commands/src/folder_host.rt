@@ -1,9 +1,8 @@
 //! What a run finds on this machine: its files, and the other ends of its ports. Nothing is claimed of either.
-ghost use Rattle.std.specs.Prelude.{None};
+ghost use Rattle.std.specs.Prelude.{◌≡◌, IsSomeAnd, None};
+ghost use Rattle.vc_transport.specs.Progress.{goes_to_terminal};
 
 use crate::host::Host;
-use crate::remote::{fetch, push};
-use std::alloc::{AllocError, Global};
 use std::fs::File;
 use std::io::Write;
 use std::net::Net;
@@ -11,48 +10,75 @@ use std::rt;
 use std::sync::Wait;
 use std::thread::Threads;
 use std::time::Clock;
-use vc_arguments::{RemoteTask, Serving};
-use vc_cli::{Failure, Faults, refuse_second_store};
+use vc_arguments::Serving;
+use vc_cli::{Failure, Faults, FolderStores, StoreLock, keep_objects, refuse_second_store};
+use vc_files::Fault;
+use vc_folder::FolderShare;
 use vc_reading::{Input, open_body};
+use vc_remote::Server;
 use vc_serving::serve;
 use vc_together::{serve_by_workers, serve_together};
-use vc_transport::Place;
-use vc_work_folder::Beside;
+use vc_transport::{Place, Progress};
 
-/// What a run asked of another process: on which store, what, and the items of a push.
+/// A store that is to be served.
 #[derive(Drop)]
-pub(crate) struct Asked {
+pub(crate) struct ToServe {
     pub store: String,
-    pub task: RemoteTask,
-    pub items: Vec<String>,
+    pub serving: Serving,
 }
 
-/// What a run finds on this machine, and what it asked of another process.
+/// What a run finds on this machine.
 #[derive(Drop)]
-pub(crate) struct FolderHost<'a, R> {
+pub(crate) struct FolderHost<'a, R, W> {
     rt: &'a R,
-    asked: Option<Asked>,
+    // Where a person is told how far a long message is, until one is sent.
+    progress: Option<Faults<W>>,
+    // What keeps a clone's objects while a shared node is asked.
+    kept: Option<FolderShare>,
+    to_serve: Option<ToServe>,
 }
 
-impl<'a, R> FolderHost<'a, R> {
-    /// What a run finds on this machine, of which nothing was asked yet.
-    pub(crate) fn new(rt: &'a R) -> FolderHost<'a, R> {
-        FolderHost { rt, asked: None }
+impl<'a, R, W> FolderHost<'a, R, W> {
+    /// What a run finds on this machine.
+    pub(crate) fn new(rt: &'a R, progress: Faults<W>) -> FolderHost<'a, R, W> {
+        FolderHost {
+            rt,
+            progress: Some(progress),
+            kept: None,
+            to_serve: None,
+        }
     }
 
-    /// What the run asked of another process, if it did.
-    pub(crate) fn into_asked(self) -> Option<Asked> {
-        self.asked
+    /// What the run took up and did not do, if it did so.
+    pub(crate) fn into_served(self) -> Option<ToServe>
+    where
+        W: Drop,
+    {
+        self.to_serve
     }
 }
 
-impl<'a, R> Host for FolderHost<'a, R>
+// Where a person is told how far a long message is: on a terminal alone.
+fn progress_of<W: Write + Drop>(faults: Faults<W>) -> Progress<W>
+    ensures { goes_to_terminal result ≡ faults.is_terminal }
+{
+    Progress::new(faults.stream, faults.is_terminal)
+}
+
+impl<'a, R, W> Host<FolderStores<'a, R>> for FolderHost<'a, R, W>
 where
-    R: rt::Files<File = File> + AllocGlobal + Clone + Drop,
+    R: rt::Files<File = File> + Threads + Net + AllocGlobal + Clone + Drop,
+    W: Write + Drop,
 {
     type Body = File;
 
+    type Server = Server<R, W>;
+
     ghost bodies = { λ _ _. None };
+
+    ghost is_at = { λ server place. server.place ≡ place };
+
+    ghost is_to_serve = { λ h store serving. IsSomeAnd h.to_serve (λ it. (it.store ≡ store) × (it.serving ≡ serving)) };
 
     fn body(&mut self, path: &str) -> Result<Input<File>, Failure> {
         open_body(self.rt, path)
@@ -62,33 +88,36 @@ where
         refuse_second_store(self.rt)
     }
 
-    fn ask(&mut self, store: &str, task: RemoteTask, items: &[&str]) -> Result<(), Failure> {
-        let alloc = self.rt.alloc();
-        self.asked = Some(Asked {
-            store: String::from_str(alloc, store)?,
-            task,
-            items: owned(alloc, items)?,
+    fn dial(&mut self, lock: StoreLock<R>, place: Place) -> Result<Server<R, W>, Failure> {
+        let Some(progress) = self.progress.take() else {
+            return Err(Failure::Fault(Fault::Device));
+        };
+        let StoreLock { store, lock } = lock;
+        // A report names what was pushed, which no ref of the clone need reach until then.
+        self.kept = Some(keep_objects(self.rt, store.as_str())?);
+        let rt = self.rt.clone()?;
+        Ok(Server::new(rt, place, store, lock, progress_of(progress)))
+    }
+
+    fn hang_up(&mut self, server: Server<R, W>) -> Result<(), Failure> {
+        self.kept = None;
+        server.into_progress().outcome()?;
+        Ok(())
+    }
+
+    fn serve(&mut self, store: &str, serving: Serving) -> Result<(), Failure> {
+        self.to_serve = Some(ToServe {
+            store: String::from_str(self.rt.alloc(), store)?,
+            serving,
         });
         Ok(())
     }
 }
 
-// The words, as texts of their own.
-fn owned(alloc: Global, words: &[&str]) -> Result<Vec<String>, AllocError> {
-    let mut texts = Vec::new(alloc);
-    for word in words {
-        texts.push(String::from_str(alloc, word)?)?;
-    }
-    Ok(texts)
-}
-
-/// Serves a store, or does what is asked of a served one, and returns whether all was done. Each has its store alone only while it works
-/// on it, and not while it waits for another process.
-pub(crate) fn exchange<R, O, E>(
+/// Serves a store: one connection after the other, or many at once, and returns whether all was done.
+pub(crate) fn serve_store<R, O, E>(
     rt: &R,
-    store: &str,
-    task: RemoteTask,
-    items: &[&str],
+    to_serve: &ToServe,
     output: &mut O,
     faults: &mut Faults<E>,
 ) -> Result<bool, Failure>
@@ -98,7 +127,6 @@ where
         + Wait
         + Net
         + Clock
-        + Beside<R>
         + AllocGlobal
         + Clone
         + Drop
@@ -110,49 +138,8 @@ where
     O: Write,
     E: Write + Send,
 {
-    match task {
-        RemoteTask::Serve(serving) => serve_store(rt, store, serving, output, faults),
-        RemoteTask::Fetch { port, timeout } => {
-            fetch(rt, store, Place { port, timeout }, output, faults)?;
-            Ok(true)
-        }
-        RemoteTask::Push {
-            port,
-            timeout,
-            atomic,
-        } => {
-            let place = Place { port, timeout };
-            push(rt, store, place, atomic, items, output, faults)
-        }
-    }
-}
-
-// Serves a store: one connection after the other, or all at once, if it is said how many those are.
-fn serve_store<R, O, E>(
-    rt: &R,
-    store: &str,
-    serving: Serving,
-    output: &mut O,
-    faults: &mut Faults<E>,
-) -> Result<bool, Failure>
-where
-    R: rt::Files<File = File>
-        + Threads
-        + Wait
-        + Net
-        + Clock
-        + Beside<R>
-        + AllocGlobal
-        + Clone
-        + Drop
-        + Send
-        + Sync,
-    R::Stream: Send,
-    R::Listener: Sync,
-    R::Dir: Send,
-    O: Write,
-    E: Write + Send,
-{
+    let store = to_serve.store.as_str();
+    let serving = to_serve.serving;
     match serving.count {
         Some(count) if serving.together => {
             return serve_together(rt, store, count, serving, output, faults);

@@ -1,20 +1,37 @@
 //! What a run finds beside stores and work trees: files to be read, and other processes.
-ghost use Rattle.std.specs.Prelude.{◌≡◌, ℕ, List, Option, IfErr, IfOk};
+ghost use Rattle.std.specs.Prelude.{◌≡◌, IfErr, IfOk, OnOk};
+ghost use Rattle.vc_cli.specs.Failure.{IsFault};
 ghost use Rattle.vc_cli.specs.Stores.{IsUnopened};
 ghost use Rattle.vc_reading.specs.Bodies.{IsUnread};
 
 use std::io::Read;
-use vc_arguments::RemoteTask;
-use vc_cli::Failure;
+use vc_arguments::Serving;
+use vc_cli::{Failure, Stores};
 use vc_reading::Input;
+use vc_remote::RemoteFault;
+use vc_transport::Place;
+use vc_world::Peer;
 
 /// What a run finds beside stores and work trees.
-pub trait Host {
+pub trait Host<S: Stores> {
+    ghost use Rattle.std.specs.Prelude.{ℕ, List, Option};
+    ghost use Rattle.vc_arguments.specs.declared.arguments.Serving.{Serving as How};
+    ghost use Rattle.vc_transport.specs.declared.connection.Place.{Place as Where};
+
     /// A file that is read.
     type Body: Read + Drop;
 
+    /// The shared node that a clone asks, whatever it is.
+    type Server: Peer<Refusal = RemoteFault> + Drop;
+
     /// What the file at each path has, if that is known.
     ghost bodies: { Self → List ℕ → Option (List ℕ) };
+
+    /// Whether this is the shared node at that place, before it is asked.
+    ghost is_at: { Self.Server → Where → Type 0 };
+
+    /// Whether this store is to be served so after the run.
+    ghost is_to_serve: { Self → List ℕ → How → Type 0 };
 
     /// Opens the file at this path.
     fn body(&mut self, path: &str) -> Result<Input<Self::Body>, Failure>
@@ -26,7 +43,18 @@ pub trait Host {
         ensures refused { IfErr result IsUnopened }
         ensures same { bodies self.new ≡ bodies self.old };
 
-    /// Takes up that this store is to be served, or what is asked of a served one. It is done after the run: it may wait for other
-    /// processes, and a run does not.
-    fn ask(&mut self, store: &str, task: RemoteTask, items: &[&str]) -> Result<(), Failure>;
+    /// The shared node at a place, as the clone meets it whose store's lock is handed in. Who waits for an answer lets go of the lock
+    /// meanwhile, and nobody takes objects away from the clone before the end.
+    fn dial(&mut self, lock: S::Lock, place: Place) -> Result<Self::Server, Failure>
+        ensures place { IfOk result (λ server. is_at server place) }
+        ensures fault { IfErr result IsFault };
+
+    /// The end of what was asked of a shared node. What a person could not be told meanwhile is a fault.
+    fn hang_up(&mut self, server: Self::Server) -> Result<(), Failure>
+        ensures fault { IfErr result IsFault };
+
+    /// Takes up that this store is to be served. That is done after the run: clients come for as long as they like, and a run ends.
+    fn serve(&mut self, store: &str, serving: Serving) -> Result<(), Failure>
+        ensures taken { OnOk result (is_to_serve self.new store.now serving) }
+        ensures fault { IfErr result IsFault };
 }

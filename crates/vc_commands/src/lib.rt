@@ -12,6 +12,6 @@ mod remote_failure;
 pub use exchanging::{fetch_from, push_to};
 pub use host::Host;
 pub use performing::perform;
-pub use program::{run, tell};
+pub use program::{run, run_with, tell};
 pub use vc_cli::{Failure, Faults};
 pub use vc_reading::{Input, known_length};

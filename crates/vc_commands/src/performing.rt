@@ -7,6 +7,7 @@ ghost use Rattle.vc_reading.specs.Bodies.{IsUnread};
 ghost use Rattle.vc_playing.specs.PlayedWorld.{IsOfScript, PrintsFirst, PrintsPlayed};
 
 use crate::host::Host;
+use crate::remote::exchange;
 use std::alloc::Global;
 use std::io::{Read, Write};
 use vc_arguments::{LocalTask, Request, Task};
@@ -44,11 +45,11 @@ pub fn perform<S, T, H, I, O, E>(
 where
     S: Stores,
     T: WorkTrees,
-    H: Host,
+    H: Host<S>,
     I: Read + Drop,
     O: Write,
     E: Write,
-    ensures { Performs S.Files.content S.is_durable (record { honest = S.Files.honest; trees_honest = T.Tree.honest; can_hold = T.can_hold trees.old; own = T.own trees.old; bodies = H.bodies host.old; input = I.remaining input.stream }) lists.entry request.now.store.now (S.content stores.old) (S.content stores.new) (T.trees trees.old) (T.trees trees.new) (O.contents output.old) (O.contents output.new) request.now.task result }
+    ensures { Performs S.Files.content S.is_durable (record { honest = S.Files.honest; trees_honest = T.Tree.honest; can_hold = T.can_hold trees.old; own = T.own trees.old; bodies = H.bodies host.old; input = I.remaining input.stream }) lists.entry request.now.store.now (S.content stores.old) (S.content stores.new) (T.trees trees.old) (T.trees trees.new) (O.contents output.old) (O.contents output.new) (record { says = H.Server.says; remaining = H.Server.Answer.remaining; is_at = H.is_at; is_to_serve = H.is_to_serve host.new }) request.now.task result }
 {
     let store = request.store;
     match request.task {
@@ -72,13 +73,22 @@ where
         Task::Local(task) => as_done(work_on(
             alloc, stores, trees, store, task, lists, output, faults,
         )),
-        Task::World { file } => as_done(play(alloc, host, file, output)),
-        Task::Remote(task) => as_done(host.ask(store, task, lists.items)),
+        Task::World { file } => as_done(play::<S, H, O>(alloc, host, file, output)),
+        Task::Remote(task) => exchange(
+            alloc,
+            stores,
+            host,
+            store,
+            task,
+            lists.items,
+            output,
+            faults,
+        ),
     }
 }
 
 // A command that is done has an answer.
-fn as_done(done: Result<(), Failure>) -> Result<bool, Failure>
+pub(crate) fn as_done(done: Result<(), Failure>) -> Result<bool, Failure>
     ensures { result ≡ as_done done }
 {
     match done {
@@ -129,7 +139,7 @@ fn hash<S, H, I, O, E>(
 ) -> Result<(), Failure>
 where
     S: Stores,
-    H: Host,
+    H: Host<S>,
     I: Read + Drop,
     O: Write,
     E: Write,
@@ -158,7 +168,7 @@ fn hash_file<S, H, O, E>(
 ) -> Result<(), Failure>
 where
     S: Stores,
-    H: Host,
+    H: Host<S>,
     O: Write,
     E: Write,
     ensures { Hashes S.Files.honest store.now (S.content stores.old) (S.content stores.new) (O.contents output.old) (O.contents output.new) (H.bodies host.old path.now) IsUnread kind write result }
@@ -172,7 +182,7 @@ where
 }
 
 // Plays the script that a file has.
-fn play<H: Host, O: Write>(
+fn play<S: Stores, H: Host<S>, O: Write>(
     alloc: Global,
     host: &mut H,
     path: &str,

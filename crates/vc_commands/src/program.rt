@@ -10,12 +10,12 @@ ghost use Rattle.vc_cli.specs.Stores.{IsUnopened, StoresStay};
 ghost use Rattle.vc_commands.specs.Performs.{Found};
 ghost use Rattle.vc_commands.specs.Running.{EndsSo, IsExplained, IsStatusOf, IsToldSo, Runs, RunsFor, TellsFailure};
 
-use crate::folder_host::{Asked, FolderHost, exchange};
+use crate::folder_host::{FolderHost, ToServe, serve_store};
 use crate::host::Host;
 use crate::performing::perform;
 use clap::error::ErrorKind;
 use clap::{ArgMatches, Error};
-use std::alloc::{AllocError, Global};
+use std::alloc::Global;
 use std::convert::AsStr;
 use std::fs::File;
 use std::io::{Read, Write};
@@ -24,7 +24,9 @@ use std::rt;
 use std::sync::Wait;
 use std::thread::Threads;
 use std::time::Clock;
-use vc_arguments::{Request, Task, command, list_of, option_without_folder, request_of, terms_of};
+use vc_arguments::{
+    RemoteTask, Request, Task, command, list_of, option_without_folder, request_of, terms_of,
+};
 use vc_cli::{Failure, Faults, FolderStores, Stores};
 use vc_files::Fault;
 use vc_reading::{Input, Lists, line_of_refusal};
@@ -32,14 +34,14 @@ use vc_work_folder::Beside;
 use vc_working::{FolderTrees, WorkTrees};
 
 /// Does what the words ask for and gives the exit status: 0 done, 1 refused, 2 a command line that is off, 3 a
-/// fault. Answers go to `output`, everything else to `faults`. The first word is the program's name. A command that writes
-/// to its store waits for another one that does.
-pub fn run<R, W, I, O, E>(
+/// fault. Answers go to `output`, everything else to `faults`, but how far a long message is to `progress`. The first word is the program's name. A command that writes to its store waits for another one that does.
+pub fn run<R, W, I, O, E, P>(
     rt: &R,
     words: &[W],
     input: Input<I>,
     output: &mut O,
     faults: &mut Faults<E>,
+    progress: Faults<P>,
 ) -> u8
 where
     W: AsStr,
@@ -60,12 +62,14 @@ where
     I: Read + Drop,
     O: Write,
     E: Write + Send,
+    P: Write + Drop,
 {
+    let alloc = rt.alloc();
     let mut stores = FolderStores::new(rt);
     let mut trees = FolderTrees::new(rt);
-    let mut host = FolderHost::new(rt);
+    let mut host = FolderHost::new(rt, progress);
     let status = run_with(
-        rt.alloc(),
+        alloc,
         &mut stores,
         &mut trees,
         &mut host,
@@ -74,21 +78,20 @@ where
         output,
         faults,
     );
-    match host.into_asked() {
-        Some(asked) => end_asked(rt, &asked, output, faults),
+    match host.into_served() {
+        Some(to_serve) => end_serving(rt, &to_serve, output, faults),
         None => status,
     }
 }
 
-// Does what was asked of another process, and gives the status.
-fn end_asked<R, O, E>(rt: &R, asked: &Asked, output: &mut O, faults: &mut Faults<E>) -> u8
+// Serves a store, and gives the status.
+fn end_serving<R, O, E>(rt: &R, at_once: &AtOnce, output: &mut O, faults: &mut Faults<E>) -> u8
 where
     R: rt::Files<File = File>
         + Threads
         + Wait
         + Net
         + Clock
-        + Beside<R>
         + AllocGlobal
         + Clone
         + Drop
@@ -100,34 +103,20 @@ where
     O: Write,
     E: Write + Send,
 {
-    let items = match words_of(rt.alloc(), &asked.items) {
-        Ok(items) => items,
-        Err(error) => return tell(&Failure::from(error), None, faults),
-    };
-    let store = asked.store.as_str();
-    let answer = exchange(rt, store, asked.task, &items, output, faults);
+    let answer = serve_store(rt, to_serve, output, faults);
     let request = Request {
-        store,
+        store: to_serve.store.as_str(),
         is_named: true,
-        task: Task::Remote(asked.task),
+        task: Task::Remote(RemoteTask::Serve(to_serve.serving)),
     };
     let lists = Lists {
         terms: "",
         parents: &[],
-        items: &items,
+        items: &[],
         paths: &[],
     };
     let mut stores = FolderStores::new(rt);
     end(rt.alloc(), &mut stores, &request, lists, answer, faults)
-}
-
-// The texts, as words.
-fn words_of(alloc: Global, texts: &[String]) -> Result<Vec<&str>, AllocError> {
-    let mut words = Vec::new(alloc);
-    for text in texts {
-        words.push(text.as_str())?;
-    }
-    Ok(words)
 }
 
 /// The same run over any stores, work trees and host.
@@ -144,12 +133,12 @@ pub fn run_with<S, T, H, W, I, O, E>(
 where
     S: Stores,
     T: WorkTrees,
-    H: Host,
+    H: Host<S>,
     W: AsStr,
     I: Read + Drop,
     O: Write,
     E: Write,
-    ensures runs { Runs S.Files.content S.is_durable (record { honest = S.Files.honest; trees_honest = T.Tree.honest; can_hold = T.can_hold trees.old; own = T.own trees.old; bodies = H.bodies host.old; input = I.remaining input.stream }) (S.content stores.old) (S.content stores.new) (T.trees trees.old) (T.trees trees.new) (O.contents output.old) (O.contents output.new) (map W.text words.now) result }
+    ensures runs { Runs S.Files.content S.is_durable (record { honest = S.Files.honest; trees_honest = T.Tree.honest; can_hold = T.can_hold trees.old; own = T.own trees.old; bodies = H.bodies host.old; input = I.remaining input.stream }) (S.content stores.old) (S.content stores.new) (T.trees trees.old) (T.trees trees.new) (O.contents output.old) (O.contents output.new) (record { says = H.Server.says; remaining = H.Server.Answer.remaining; is_at = H.is_at; is_to_serve = H.is_to_serve host.new }) (map W.text words.now) result }
 {
     match obey(alloc, stores, trees, host, words, input, output, faults) {
         Ok(status) => status,
@@ -171,12 +160,12 @@ fn obey<S, T, H, W, I, O, E>(
 where
     S: Stores,
     T: WorkTrees,
-    H: Host,
+    H: Host<S>,
     W: AsStr,
     I: Read + Drop,
     O: Write,
     E: Write,
-    ensures { EndsSo (Runs S.Files.content S.is_durable (record { honest = S.Files.honest; trees_honest = T.Tree.honest; can_hold = T.can_hold trees.old; own = T.own trees.old; bodies = H.bodies host.old; input = I.remaining input.stream }) (S.content stores.old) (S.content stores.new) (T.trees trees.old) (T.trees trees.new) (O.contents output.old) (O.contents output.new) (map W.text words.now)) result }
+    ensures { EndsSo (Runs S.Files.content S.is_durable (record { honest = S.Files.honest; trees_honest = T.Tree.honest; can_hold = T.can_hold trees.old; own = T.own trees.old; bodies = H.bodies host.old; input = I.remaining input.stream }) (S.content stores.old) (S.content stores.new) (T.trees trees.old) (T.trees trees.new) (O.contents output.old) (O.contents output.new) (record { says = H.Server.says; remaining = H.Server.Answer.remaining; is_at = H.is_at; is_to_serve = H.is_to_serve host.new }) (map W.text words.now)) result }
 {
     let program = command(alloc)?;
     match program.try_get_matches_from(words) {
@@ -199,11 +188,11 @@ fn answer<S, T, H, I, O, E>(
 where
     S: Stores,
     T: WorkTrees,
-    H: Host,
+    H: Host<S>,
     I: Read + Drop,
     O: Write,
     E: Write,
-    ensures { EndsSo (RunsFor S.Files.content S.is_durable (record { honest = S.Files.honest; trees_honest = T.Tree.honest; can_hold = T.can_hold trees.old; own = T.own trees.old; bodies = H.bodies host.old; input = I.remaining input.stream }) (S.content stores.old) (S.content stores.new) (T.trees trees.old) (T.trees trees.new) (O.contents output.old) (O.contents output.new) (subcommand_rows_of matches.now)) result }
+    ensures { EndsSo (RunsFor S.Files.content S.is_durable (record { honest = S.Files.honest; trees_honest = T.Tree.honest; can_hold = T.can_hold trees.old; own = T.own trees.old; bodies = H.bodies host.old; input = I.remaining input.stream }) (S.content stores.old) (S.content stores.new) (T.trees trees.old) (T.trees trees.new) (O.contents output.old) (O.contents output.new) (record { says = H.Server.says; remaining = H.Server.Answer.remaining; is_at = H.is_at; is_to_serve = H.is_to_serve host.new }) (subcommand_rows_of matches.now)) result }
 {
     refuse_unnamed_folder(alloc, matches)?;
     let terms = terms_of(alloc, matches)?;
@@ -219,7 +208,7 @@ where
         items: &items,
         paths: &paths,
     };
-    look_above(host, &request)?;
+    look_above::<S, H>(host, &request)?;
     let answer = perform(
         alloc, stores, trees, host, &request, lists, input, output, faults,
     );
@@ -227,7 +216,7 @@ where
 }
 
 // Refuses to begin a second store below the folder of another one, if no store is named and one is needed.
-fn look_above<H: Host>(host: &mut H, request: &Request<'_>) -> Result<(), Failure>
+fn look_above<S: Stores, H: Host<S>>(host: &mut H, request: &Request<'_>) -> Result<(), Failure>
     ensures refused { IfErr result (λ e. (request.now.is_named ≡ false) × (needs_store request.now.task ≡ true) × IsUnopened e) }
     ensures same { H.bodies host.new ≡ H.bodies host.old }
 {

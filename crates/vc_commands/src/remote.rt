@@ -1,147 +1,139 @@
-//! The subcommands that ask another process: `fetch` and `push`.
-ghost use Rattle.std.specs.Prelude.{◌≡◌, ◌≢◌, []};
-ghost use Rattle.vc_transport.specs.Progress.{goes_to_terminal};
+//! The subcommands that ask another process, `fetch` and `push`, and what a run has to do with `serve`.
+ghost use Rattle.std.specs.Prelude.{◌≡◌, map};
+ghost use Rattle.vc_commands.specs.Remote.{FetchesFrom, PushesTo};
+ghost use Rattle.vc_commands.specs.Performs.{PerformsRemote};
 
 use crate::exchanging::{fetch_from, push_to};
-use std::fs::File;
+use crate::host::Host;
+use crate::performing::as_done;
+use std::alloc::Global;
 use std::io::Write;
-use std::net::Net;
-use std::rt;
-use std::thread::Threads;
-use vc_cli::{Failure, Faults, FolderStores, StoreLock, Stores, keep_objects, open_store};
-use vc_folder::FolderFiles;
+use vc_arguments::RemoteTask;
+use vc_cli::{Failure, Faults, Stores};
 use vc_push_items::items_of;
-use vc_remote::Server;
-use vc_sending::PushItem;
-use vc_transport::{Place, Progress};
+use vc_transport::Place;
 
-// Where a person is told how far a long message is: on a terminal alone.
-fn progress_of<E: Write>(faults: &mut Faults<E>) -> Progress<&mut E>
-    ensures { goes_to_terminal result ≡ faults.old.is_terminal }
-{
-    Progress::new(&mut faults.stream, faults.is_terminal)
-}
-
-/// Fetches into the clone in this folder from the store that is served at a port, and prints how many refs moved. Nobody takes objects
-/// from the clone meanwhile. What could not be told on a terminal is a fault after the answer.
-pub fn fetch<R, O, E>(
-    rt: &R,
+/// Asks a served store, and returns whether all was done, or takes up that a store is to be served. A clone's lock is held while it is worked
+/// on, and not while an answer is waited for.
+pub(crate) fn exchange<S, H, O, E>(
+    alloc: Global,
+    stores: &mut S,
+    host: &mut H,
     store: &str,
-    place: Place,
-    output: &mut O,
-    faults: &mut Faults<E>,
-) -> Result<(), Failure>
-where
-    R: rt::Files<File = File> + Threads + Net + AllocGlobal + Clone + Drop,
-    O: Write,
-    E: Write,
-{
-    let mut stores = FolderStores::new(rt);
-    let lock = stores.lock(store, faults)?;
-    let _kept = keep_objects(rt, store)?;
-    let files = stores.open_locked(&lock)?;
-    let mut progress = progress_of(faults);
-    fetch_over(rt, &mut stores, lock, files, place, &mut progress, output)?;
-    progress.outcome()?;
-    Ok(())
-}
-
-// Fetches into the clone that the files of a locked store hold, from the store that is served at a port.
-fn fetch_over<R, W, O>(
-    rt: &R,
-    stores: &mut FolderStores<'_, R>,
-    lock: StoreLock<R>,
-    files: FolderFiles<R>,
-    place: Place,
-    progress: &mut Progress<W>,
-    output: &mut O,
-) -> Result<(), Failure>
-where
-    R: rt::Files<File = File> + Threads + Net + AllocGlobal + Clone + Drop,
-    W: Write,
-    O: Write,
-{
-    let alloc = rt.alloc();
-    let StoreLock { store, lock } = lock;
-    let folder = String::from_str(alloc, store.as_str())?;
-    let mut server = Server::new(rt.clone()?, place, folder, lock, progress);
-    fetch_from(alloc, stores, store.as_str(), files, &mut server, output)
-}
-
-/// Pushes from the clone in this folder to the store that is served at a port, prints what became of each item, and returns
-/// whether all were done. If the push is atomic, all were done or none was. Nobody takes objects from the clone meanwhile. What could
-/// not be told on a terminal is a fault after the answer.
-pub fn push<R, O, E>(
-    rt: &R,
-    store: &str,
-    place: Place,
-    atomic: bool,
-    items: &[&str],
+    task: RemoteTask,
+    words: &[&str],
     output: &mut O,
     faults: &mut Faults<E>,
 ) -> Result<bool, Failure>
 where
-    R: rt::Files<File = File> + Threads + Net + AllocGlobal + Clone + Drop,
+    S: Stores,
+    H: Host<S>,
     O: Write,
     E: Write,
+    ensures { PerformsRemote (record { says = H.Server.says; remaining = H.Server.Answer.remaining; is_at = H.is_at; is_to_serve = H.is_to_serve host.new }) S.Files.honest store.now (map (λ word. word.now) words.now) (S.content stores.old) (S.content stores.new) (O.contents output.old) (O.contents output.new) task result }
 {
-    let alloc = rt.alloc();
-    let mut stores = FolderStores::new(rt);
+    match task {
+        RemoteTask::Serve(serving) => as_done(host.serve(store, serving)),
+        RemoteTask::Fetch { port, timeout } => {
+            let place = Place { port, timeout };
+            as_done(fetch(alloc, stores, host, store, place, output, faults))
+        }
+        RemoteTask::Push {
+            port,
+            timeout,
+            atomic,
+        } => {
+            let place = Place { port, timeout };
+            push(
+                alloc, stores, host, store, place, atomic, words, output, faults,
+            )
+        }
+    }
+}
+
+// Fetches into the clone in this store from the shared node at a place, and prints how many refs moved. What could not be told on a
+// terminal is a fault after the answer.
+fn fetch<S, H, O, E>(
+    alloc: Global,
+    stores: &mut S,
+    host: &mut H,
+    store: &str,
+    place: Place,
+    output: &mut O,
+    faults: &mut Faults<E>,
+) -> Result<(), Failure>
+where
+    S: Stores,
+    H: Host<S>,
+    O: Write,
+    E: Write,
+    ensures { FetchesFrom S.Files.honest store.now (S.content stores.old) (S.content stores.new) (O.contents output.old) (O.contents output.new) (record { says = H.Server.says; remaining = H.Server.Answer.remaining; is_at = H.is_at; is_to_serve = H.is_to_serve host.new }) place result }
+{
     let lock = stores.lock(store, faults)?;
-    let items = items_of(alloc, &mut open_store(rt, store)?, items)?;
+    let files = stores.open_locked(&lock)?;
+    let mut server = match host.dial(lock, place) {
+        Ok(server) => server,
+        Err(failure) => {
+            stores.close(store, files);
+            return Err(failure);
+        }
+    };
+    fetch_from(alloc, stores, store, files, &mut server, output)?;
+    host.hang_up(server)
+}
+
+// Pushes what the words name from the clone in this store to the shared node at a place, prints what became of each item, and returns
+// whether all were done. If the push is atomic, all were done or none was. What could not be told on a terminal is a fault after the
+// answer.
+fn push<S, H, O, E>(
+    alloc: Global,
+    stores: &mut S,
+    host: &mut H,
+    store: &str,
+    place: Place,
+    atomic: bool,
+    words: &[&str],
+    output: &mut O,
+    faults: &mut Faults<E>,
+) -> Result<bool, Failure>
+where
+    S: Stores,
+    H: Host<S>,
+    O: Write,
+    E: Write,
+    ensures { PushesTo S.Files.honest store.now (S.content stores.old) (S.content stores.new) (O.contents output.old) (O.contents output.new) (record { says = H.Server.says; remaining = H.Server.Answer.remaining; is_at = H.is_at; is_to_serve = H.is_to_serve host.new }) place atomic (map (λ word. word.now) words.now) result }
+{
+    let lock = stores.lock(store, faults)?;
+    let mut files = stores.open_locked(&lock)?;
+    let items = match items_of(alloc, &mut files, words) {
+        Ok(items) => items,
+        Err(failure) => {
+            stores.close(store, files);
+            return Err(failure);
+        }
+    };
     // The command line has one at least.
     if items.is_empty() {
+        stores.close(store, files);
         return Ok(true);
     }
-    // A report names what was pushed, which no ref of the clone need reach until then.
-    let _kept = keep_objects(rt, store)?;
-    let files = stores.open_locked(&lock)?;
-    let mut progress = progress_of(faults);
-    let done = push_over(
-        rt,
-        &mut stores,
-        lock,
-        files,
-        place,
-        atomic,
-        &items,
-        &mut progress,
-        output,
-    )?;
-    progress.outcome()?;
-    Ok(done)
-}
-
-// Pushes these items from the clone that the files of a locked store hold, to the store that is served at a port.
-fn push_over<R, W, O>(
-    rt: &R,
-    stores: &mut FolderStores<'_, R>,
-    lock: StoreLock<R>,
-    files: FolderFiles<R>,
-    place: Place,
-    atomic: bool,
-    items: &[PushItem],
-    progress: &mut Progress<W>,
-    output: &mut O,
-) -> Result<bool, Failure>
-where
-    R: rt::Files<File = File> + Threads + Net + AllocGlobal + Clone + Drop,
-    W: Write,
-    O: Write,
-    requires some { items.now ≢ [] }
-{
-    let alloc = rt.alloc();
-    let StoreLock { store, lock } = lock;
-    let folder = String::from_str(alloc, store.as_str())?;
-    let mut server = Server::new(rt.clone()?, place, folder, lock, progress);
-    push_to(
+    let mut server = match host.dial(lock, place) {
+        Ok(server) => server,
+        Err(failure) => {
+            stores.close(store, files);
+            return Err(failure);
+        }
+    };
+    let done = push_to(
         alloc,
         stores,
-        store.as_str(),
+        store,
         files,
         &mut server,
         atomic,
-        items,
+        &items,
         output,
-    )
+    )?;
+    host.hang_up(server)?;
+    Ok(done)
 }

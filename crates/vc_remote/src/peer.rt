@@ -37,21 +37,22 @@ const BOUND: Bound = Bound {
 /// before the clone sees the answer: a server that is silent stops no other command on the clone. An answer that is long is kept in a
 /// file meanwhile, from which the clone takes it object by object.
 #[derive(Drop)]
-pub struct Server<'a, R: rt::Files + Net + AllocGlobal + Clone + Drop, W> {
+pub struct Server<R: rt::Files + Net + AllocGlobal + Clone + Drop, W> {
     rt: R,
-    place: Place,
+    /// Where it is.
+    pub place: Place,
     // The folder of the clone.
     store: String,
     lock: Option<FolderLock<R>>,
     // The connection, once there is one.
     stream: Option<BufReader<R::Stream>>,
-    progress: &'a mut Progress<W>,
+    progress: Progress<W>,
 }
 
-impl<'a, R, W> Server<'a, R, W>
+impl<R, W> Server<R, W>
 where
     R: rt::Files<File = File> + Net + AllocGlobal + Clone + Drop,
-    W: Write,
+    W: Write + Drop,
 {
     /// The shared node at a port, for the clone in a folder, whose lock is held. The first question makes the connection.
     pub fn new(
@@ -59,8 +60,10 @@ where
         place: Place,
         store: String,
         lock: FolderLock<R>,
-        progress: &'a mut Progress<W>,
-    ) -> Server<'a, R, W> {
+        progress: Progress<W>,
+    ) -> Server<R, W>
+        ensures { result.place ≡ place }
+    {
         Server {
             rt,
             place,
@@ -69,6 +72,13 @@ where
             stream: None,
             progress,
         }
+    }
+
+    /// Ends the connection, and gives what told a person how far messages were.
+    pub fn into_progress(self) -> Progress<W>
+        ensures { result ≡ self.progress }
+    {
+        self.progress
     }
 
     // Makes the connection where there is none.
@@ -95,10 +105,10 @@ where
             return Err(RemoteFault::WriteFailed);
         };
         let folder = self.store.as_str();
-        if send(stream.get_mut(), bytes, &mut *self.progress).is_err() {
+        if send(stream.get_mut(), bytes, &mut self.progress).is_err() {
             return Err(said_before(&self.rt, folder, stream));
         }
-        let kept = receive(&self.rt, folder, MOST, BOUND, stream, &mut *self.progress)?;
+        let kept = receive(&self.rt, folder, MOST, BOUND, stream, &mut self.progress)?;
         match kept.message? {
             Some(()) => whole(kept.bytes),
             None => Err(RemoteFault::ReadFailed),
@@ -155,10 +165,10 @@ fn read(alloc: Global, answer: Spooled<File>) -> Result<Reply<Fallible<Spooled<F
     }
 }
 
-impl<'a, R, W> Peer for Server<'a, R, W>
+impl<R, W> Peer for Server<R, W>
 where
     R: rt::Files<File = File> + Net + AllocGlobal + Clone + Drop,
-    W: Write,
+    W: Write + Drop,
 {
     type Refusal = RemoteFault;
 

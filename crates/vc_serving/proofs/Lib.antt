@@ -1,5 +1,6 @@
 pub mod AnsweringLemmas
-pub mod TurnLemmas
-pub mod LifeLemmas
 pub mod InTurnLemmas
+pub mod LifeLemmas
 pub mod SafeLemmas
+mod ServedLemmas
+pub mod TurnLemmas

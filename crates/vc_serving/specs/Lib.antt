@@ -4,3 +4,4 @@ pub mod Turns
 pub mod Clients
 pub mod InTurn
 pub mod Safe
+pub mod Served

@@ -1,11 +1,11 @@
 //! Files that are made a shared node's.
-ghost use Rattle.std.specs.Prelude.{IfErr, OnErr, OnOk};
+ghost use Rattle.std.specs.Prelude.{IfErr, OnOk};
 ghost use Rattle.vc_files.specs.Failures.{Writes};
 ghost use Rattle.vc_model.specs.Repository.{Repository};
 ghost use Rattle.vc_local.specs.Blames.{BlamesOpen};
 ghost use Rattle.vc_local.specs.Clean.{KeepsClean};
 ghost use Rattle.vc_local.specs.NodeFault.{TellsDevice as TellsNodeDevice};
-ghost use Rattle.vc_local.specs.Opening.{IsOpenable};
+ghost use Rattle.vc_local.specs.Opening.{IsOpenable, OpenableAs};
 ghost use Rattle.vc_serving.specs.Answering.{HoldsOpened};
 
 use std::alloc::Global;
@@ -18,7 +18,7 @@ pub fn make_shared<F: Files>(alloc: Global, files: F) -> (F, Result<(), NodeFaul
     ensures made { F.honest → (r : Repository) → IsOpenable (F.content files) r → OnOk result.1 (HoldsOpened (F.content result.0) r) }
     ensures refused { F.honest → IfErr result.1 (BlamesOpen (F.content files)) }
     ensures clean { F.honest → OnOk result.1 (KeepsClean (F.content files) (F.content result.0)) }
-    ensures err { F.honest → (r : Repository) → IsOpenable (F.content files) r → OnErr result.1 (IsOpenable (F.content result.0) r) }
+    ensures openable { F.honest → OpenableAs (F.content files) (IsOpenable (F.content result.0)) }
     ensures wear { Writes F.honest F.content F.failed F.can_fail F.left files result.0 (TellsNodeDevice result.1) }
 {
     match Shared::open(alloc, files) {

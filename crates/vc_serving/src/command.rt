@@ -1,7 +1,15 @@
-//! The subcommand `serve`.
+//! The subcommand `serve`, one connection after the other.
+ghost use Rattle.std.specs.Io.KnownBytes.{Appends};
+ghost use Rattle.std.specs.Prelude.{IfErr, IfOk, OnErr, OnOk};
+ghost use Rattle.vc_cli.specs.Failure.{IsFault};
+ghost use Rattle.vc_cli.specs.Stores.{OthersStay};
+ghost use Rattle.vc_local.specs.Opening.{IsOpenable, OpenableAs};
+ghost use Rattle.vc_serving.specs.Answering.{HoldsOpened};
+ghost use Rattle.vc_serving.specs.Served.{IsUnready, PrintsListening, listening_line};
 
 use crate::answering::make_shared;
 use crate::serving::serve_connections;
+use std::alloc::Global;
 use std::fs::File;
 use std::io::{self, Write};
 use std::net::Net;
@@ -9,7 +17,7 @@ use std::rt;
 use std::thread::Threads;
 use std::time::Clock;
 use vc_arguments::Serving;
-use vc_cli::{Failure, Faults, only_writer, open_store, print_text};
+use vc_cli::{Failure, Faults, FolderStores, Stores, print_text};
 use vc_transport::bind;
 
 /// Serves connections to the store in this folder, one after the other.
@@ -44,7 +52,7 @@ where
     O: Write,
     E: Write,
 {
-    make_ready(rt, store, faults)?;
+    make_ready(rt.alloc(), &mut FolderStores::new(rt), store, faults)?;
     listen(rt, port, output, faults)
 }
 
@@ -56,28 +64,56 @@ pub fn listen<R, O, E>(
     faults: &mut Faults<E>,
 ) -> Result<R::Listener, Failure>
 where
-    R: rt::Files + Net + AllocGlobal,
+    R: Net + AllocGlobal,
     O: Write,
     E: Write,
 {
-    let listener = match bind(rt, port) {
-        Ok(listener) => listener,
-        Err(error) => return Err(unopened(rt, port, error, faults)?),
-    };
-    let line = format!(in rt.alloc(); "listening {port}\n")?;
-    print_text(line.as_bytes(), output)?;
+    let listener = bind_port(rt, port, faults)?;
+    print_listening(rt.alloc(), port, output)?;
     Ok(listener)
 }
 
-/// Makes the store that of a shared node, or tells why it is none, before anybody is served.
-pub fn make_ready<R, E>(rt: &R, store: &str, faults: &mut Faults<E>) -> Result<(), Failure>
+// Opens a port. If that can't be done, a person is told which one it is.
+fn bind_port<R, E>(rt: &R, port: u16, faults: &mut Faults<E>) -> Result<R::Listener, Failure>
 where
-    R: rt::Files<File = File> + Threads + AllocGlobal + Clone + Drop,
+    R: Net + AllocGlobal,
     E: Write,
+    ensures fault { IfErr result IsFault }
 {
-    let _lock = only_writer(rt, store, faults)?;
-    let (mut files, made) = make_shared(rt.alloc(), open_store(rt, store)?);
-    files.sync(rt.alloc())?;
+    match bind(rt, port) {
+        Ok(listener) => Ok(listener),
+        Err(error) => Err(unopened(rt.alloc(), port, error, faults)?),
+    }
+}
+
+// Tells which port is open.
+fn print_listening<O: Write>(alloc: Global, port: u16, output: &mut O) -> Result<(), Failure>
+    ensures line { OnOk result (Appends (O.contents output.old) (O.contents output.new) (listening_line port)) }
+    ensures front { OnErr result (PrintsListening port (O.contents output.old) (O.contents output.new)) }
+    ensures fault { IfErr result IsFault }
+{
+    let line = format!(in alloc; "listening {port}\n")?;
+    print_text(line.as_bytes(), output)
+}
+
+/// Makes the store that of a shared node, or says why it is none, before anybody is served.
+pub fn make_ready<S: Stores, E: Write>(
+    alloc: Global,
+    stores: &mut S,
+    store: &str,
+    faults: &mut Faults<E>,
+) -> Result<(), Failure>
+    ensures ready { S.Files.honest → OpenableAs (S.content stores.old store.now) (λ r. OnOk result (HoldsOpened (S.content stores.new store.now) r)) }
+    ensures openable { S.Files.honest → OpenableAs (S.content stores.old store.now) (IsOpenable (S.content stores.new store.now)) }
+    ensures refused { S.Files.honest → IfErr result (IsUnready (S.content stores.old store.now)) }
+    ensures others { OthersStay store.now (S.content stores.old) (S.content stores.new) }
+{
+    let lock = stores.lock(store, faults)?;
+    let files = stores.open_locked(&lock)?;
+    let (mut files, made) = make_shared(alloc, files);
+    let settled = stores.settle(&mut files);
+    stores.close_locked(&lock, files);
+    settled?;
     match made {
         Ok(()) => Ok(()),
         Err(fault) => Err(Failure::Node(fault)),
@@ -85,17 +121,16 @@ where
 }
 
 // The fault of a port that can't be opened. A person is told which one it is.
-fn unopened<R, E>(
-    rt: &R,
+fn unopened<E: Write>(
+    alloc: Global,
     port: u16,
     error: io::Error,
     faults: &mut Faults<E>,
 ) -> Result<Failure, Failure>
-where
-    R: rt::Files + AllocGlobal,
-    E: Write,
+    ensures told { IfOk result IsFault }
+    ensures fault { IfErr result IsFault }
 {
-    let line = format!(in rt.alloc(); "port {port} can't be opened: another program may have it")?;
+    let line = format!(in alloc; "port {port} can't be opened: another program may have it")?;
     faults.tell(line.as_str())?;
     Ok(Failure::from(error))
 }

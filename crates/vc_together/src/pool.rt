@@ -11,7 +11,7 @@ use std::sync::Wait;
 use std::thread::Threads;
 use std::time::Clock;
 use vc_arguments::Serving;
-use vc_cli::{Failure, Faults, keep_objects, only_writer};
+use vc_cli::{Failure, Faults, FolderStores, keep_objects, only_writer};
 use vc_desk::serve_ports;
 use vc_files::Files;
 use vc_serving::{MEBIBYTE, listen, make_ready};
@@ -45,7 +45,7 @@ where
     E: Write + Send,
 {
     let alloc = rt.alloc();
-    make_ready(rt, store, faults)?;
+    make_ready(alloc, &mut FolderStores::new(rt), store, faults)?;
     let _lock = only_writer(rt, store, faults)?;
     let _kept = keep_objects(rt, store)?;
     let home = GroupStore::new(rt, store)?;

@@ -11,12 +11,17 @@ fn main(rt: HostRuntime) -> ExitCode {
         stream: rt.stderr(),
         is_terminal: rt.stderr().is_terminal(),
     };
+    // The same stream, for what is told while a run goes on.
+    let progress = Faults {
+        stream: rt.stderr(),
+        is_terminal: faults.is_terminal,
+    };
     let input = Input {
         stream: rt.reader(),
         length: length_of_input(&rt),
     };
     ExitCode::from(match words(&rt) {
-        Ok(words) => run(&rt, &words, input, &mut rt.stdout(), &mut faults),
+        Ok(words) => run(&rt, &words, input, &mut rt.stdout(), &mut faults, progress),
         Err(failure) => tell(&failure, None, &mut faults),
     })
 }
