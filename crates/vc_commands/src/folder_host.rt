@@ -1,5 +1,5 @@
 //! What a run finds on this machine: its files, and the other ends of its ports. Nothing is claimed of either.
-ghost use Rattle.std.specs.Prelude.{◌≡◌, IsSomeAnd, None};
+ghost use Rattle.std.specs.Prelude.{◌≡◌, IsSomeAnd, None, string_bytes};
 ghost use Rattle.vc_transport.specs.Progress.{goes_to_terminal};
 
 use crate::host::Host;
@@ -78,7 +78,7 @@ where
 
     ghost is_at = { λ server place. server.place ≡ place };
 
-    ghost is_to_serve = { λ h store serving. IsSomeAnd h.to_serve (λ it. (it.store ≡ store) × (it.serving ≡ serving)) };
+    ghost is_to_serve = { λ h store serving. IsSomeAnd h.to_serve (λ it. (string_bytes it.store ≡ store) × (it.serving ≡ serving)) };
 
     fn body(&mut self, path: &str) -> Result<Input<File>, Failure> {
         open_body(self.rt, path)

@@ -85,7 +85,7 @@ where
 }
 
 // Serves a store, and gives the status.
-fn end_serving<R, O, E>(rt: &R, at_once: &AtOnce, output: &mut O, faults: &mut Faults<E>) -> u8
+fn end_serving<R, O, E>(rt: &R, to_serve: &ToServe, output: &mut O, faults: &mut Faults<E>) -> u8
 where
     R: rt::Files<File = File>
         + Threads
