@@ -37,10 +37,11 @@ use Rattle.vc_refs.specs.Packing.{IsPackedFrom}
 use Rattle.vc_refs.specs.Refs.{ChangesOnly, refs}
 use Rattle.vc_refs.specs.declared.heads.Head.TheVariants as head
 use Rattle.vc_rules.specs.Git.{git}
+use Rattle.vc_serving.specs.Served.{KnownService}
 use Rattle.vc_working.specs.CloneWords.{branch_ref}
 use Rattle.vc_working.specs.StatusLines.{PrintsStatus, TellsStatus}
 use Rattle.vc_working.specs.Trees.{ChecksOutTree, IsOfStatus, LeavesTree, OtherTreesStay, RefusesCheckoutTree, TreeStays, Trees}
-use Rattle.vc_commands.specs.Remote.{FetchesFrom, Processes, PushesTo, TakesUp}
+use Rattle.vc_commands.specs.Remote.{FetchesFrom, KnownPeer, PushesTo, ServesTo, is_at_once}
 
 -- what a command finds beside stores, work trees and output: whether files and work trees are what they claim; which paths a work tree can hold, and where its
 -- store lies in it; what the files to be read have, and standard input
@@ -203,12 +204,12 @@ NoTree Ends was now done = Ends done × (now ≡ was)
 abbrev pub NoStore : (Result (Unit {0}) Failure → Type 0) → (old new : Contents) → (was now : Trees) → Result (Unit {0}) Failure → Type 0
 NoStore Ends old new was now done = Ends done × (new ≡ old) × (now ≡ was)
 
--- of those that ask another process; a store that is to be served is so after the run
-module _ {P A : Type 0} (others : Processes P A) (honest : Type 0) (store : List ℕ) (words : List (List ℕ)) (old new : Contents) (before after : Option (List ℕ)) where
+-- of those that meet other processes
+module _ {V F R W C P A : Type 0} (service : KnownService V F R W C) (peer : KnownPeer P A) (honest : Type 0) (store : List ℕ) (words : List (List ℕ)) (old new : Contents) (before after : Option (List ℕ)) where
   abbrev pub PerformsRemote : RemoteTask → Result Bool Failure → Type 0
-  PerformsRemote (Serve serving) = Does (TakesUp (others.is_to_serve store serving) old new before after)
-  PerformsRemote (Fetch port timeout) = Does (FetchesFrom honest store old new before after others (record { port = port; timeout = timeout }))
-  PerformsRemote (Push port timeout atomic) = PushesTo honest store old new before after others (record { port = port; timeout = timeout }) atomic words
+  PerformsRemote (Serve serving) = Does (ServesTo honest store old new before after service serving (is_at_once serving))
+  PerformsRemote (Fetch port timeout) = Does (FetchesFrom honest store old new before after peer (record { port = port; timeout = timeout }))
+  PerformsRemote (Push port timeout atomic) = PushesTo honest store old new before after peer (record { port = port; timeout = timeout }) atomic words
 
 module _ {F : Type 0} (content : F → FileMap) (is_durable : F → Type 0) (found : Found) (lists : Lists) (store : List ℕ) (old new : Contents) (was now : Trees) (before after : Option (List ℕ)) where
   -- of a clone's
@@ -223,8 +224,8 @@ module _ {F : Type 0} (content : F → FileMap) (is_durable : F → Type 0) (fou
   PerformsLocal (local.Checkout work revision) = Brings found store work.now old new was now revision.now
   PerformsLocal (local.Status work) = ShowsStatus found store work.now old new was now before after
 
-  -- of each subcommand
-  module _ {P A : Type 0} (others : Processes P A) where
+  -- Of each subcommand. Serving many clients at once is only taken up: it is done after the run.
+  module _ {V G R W C P A : Type 0} (service : KnownService V G R W C) (peer : KnownPeer P A) where
     abbrev pub Performs : Task → Result Bool Failure → Type 0
     Performs Init = Does (NoTree (Inits found.honest store old new) was now)
     Performs (HashObject kind write file) = Does (NoTree (HashesFrom found.honest store old new before after found.bodies found.input kind write file) was now)
@@ -237,4 +238,4 @@ module _ {F : Type 0} (content : F → FileMap) (is_durable : F → Type 0) (fou
     Performs (Prune false) = Does (NoTree (PrunesStore found.honest store old new before after) was now)
     Performs (Local task) = Does (PerformsLocal task)
     Performs (World file) = Does (NoStore (Reads (found.bodies file.now) before after (λ script. PrintsPlayed script (Appends before after)) IsUnread IsOfScript (λ script. PrintsFront (PrintsFirst script) before after)) old new was now)
-    Performs (Remote task) = λ result. PerformsRemote others found.honest store (map (λ word. word.now) lists.items.now) old new before after task result × (now ≡ was)
+    Performs (Remote task) = λ result. PerformsRemote service peer found.honest store (map (λ word. word.now) lists.items.now) old new before after task result × (now ≡ was)

@@ -14,9 +14,10 @@ use Rattle.vc_cli.specs.declared.failure.Failure.{Failure}
 use Rattle.vc_cli.specs.declared.faults.Faults.{Faults}
 use Rattle.vc_files.specs.FileMap.{FileMap}
 use Rattle.vc_reading.specs.declared.again.Lists.{Lists}
+use Rattle.vc_serving.specs.Served.{KnownService}
 use Rattle.vc_working.specs.Trees.{Trees}
 use Rattle.vc_commands.specs.Performs.{Found, Performs}
-use Rattle.vc_commands.specs.Remote.{Processes}
+use Rattle.vc_commands.specs.Remote.{KnownPeer}
 
 -- a status, or 3 if a person could not be told why
 abbrev pub IsTold : ℕ → ℕ → Type 0
@@ -44,7 +45,7 @@ Asks entered request lists = IsReadAs entered request lists.terms.now lists.pare
 abbrev pub AllStays : (old new : Contents) → (was now : Trees) → Type 0
 AllStays old new was now = StoresStay old new × (now ≡ was)
 
-module _ {F P A : Type 0} (content : F → FileMap) (is_durable : F → Type 0) (found : Found) (old new : Contents) (was now : Trees) (before after : Option (List ℕ)) (others : Processes P A) where
+module _ {F V G R W C P A : Type 0} (content : F → FileMap) (is_durable : F → Type 0) (found : Found) (old new : Contents) (was now : Trees) (before after : Option (List ℕ)) (service : KnownService V G R W C) (peer : KnownPeer P A) where
   -- how a run ends that entered this subcommand
   pub data RunsFor (entered : Option (Text × List Row)) (status : ℕ) : Type 0 where
     -- an option names an empty folder, or nothing is asked that the program does
@@ -57,7 +58,7 @@ module _ {F P A : Type 0} (content : F → FileMap) (is_durable : F → Type 0) 
     early : AllStays old new was now → status ≡ 3 → RunsFor entered status
     -- the command is performed that is asked for
     performed : (request : Request) (lists : Lists) (answer : Result Bool Failure) → Asks entered request lists
-        → Performs content is_durable found lists request.store.now old new was now before after others request.task answer → IsStatusOf answer status → RunsFor entered status
+        → Performs content is_durable found lists request.store.now old new was now before after service peer request.task answer → IsStatusOf answer status → RunsFor entered status
 
   -- the program takes no such words: it says so, or prints the help that was asked for
   pub record IsUntaken (program : App) (words : List Text) (status : ℕ) : Type 0 where

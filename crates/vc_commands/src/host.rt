@@ -1,5 +1,5 @@
-//! What a run finds beside stores and work trees: files to be read, and other processes.
-ghost use Rattle.std.specs.Prelude.{◌≡◌, IfErr, IfOk, OnOk};
+//! What a run finds beside stores and work trees: files to be read, a shared node to be asked, and clients to be served.
+ghost use Rattle.std.specs.Prelude.{◌≡◌, IfErr, IfOk};
 ghost use Rattle.vc_cli.specs.Failure.{IsFault};
 ghost use Rattle.vc_cli.specs.Stores.{IsUnopened};
 ghost use Rattle.vc_reading.specs.Bodies.{IsUnread};
@@ -9,13 +9,13 @@ use vc_arguments::Serving;
 use vc_cli::{Failure, Stores};
 use vc_reading::Input;
 use vc_remote::RemoteFault;
+use vc_serving::Service;
 use vc_transport::Place;
 use vc_world::Peer;
 
 /// What a run finds beside stores and work trees.
 pub trait Host<S: Stores> {
     ghost use Rattle.std.specs.Prelude.{ℕ, List, Option};
-    ghost use Rattle.vc_arguments.specs.declared.arguments.Serving.{Serving as How};
     ghost use Rattle.vc_transport.specs.declared.connection.Place.{Place as Where};
 
     /// A file that is read.
@@ -24,14 +24,14 @@ pub trait Host<S: Stores> {
     /// The shared node that a clone asks, whatever it is.
     type Server: Peer<Refusal = RemoteFault> + Drop;
 
+    /// Where a store is served.
+    type Service: Service<S> + Drop;
+
     /// What the file at each path has, if that is known.
     ghost bodies: { Self → List ℕ → Option (List ℕ) };
 
     /// Whether this is the shared node at that place, before it is asked.
     ghost is_at: { Self.Server → Where → Type 0 };
-
-    /// Whether this store is to be served so after the run.
-    ghost is_to_serve: { Self → List ℕ → How → Type 0 };
 
     /// Opens the file at this path.
     fn body(&mut self, path: &str) -> Result<Input<Self::Body>, Failure>
@@ -53,8 +53,11 @@ pub trait Host<S: Stores> {
     fn hang_up(&mut self, server: Self::Server) -> Result<(), Failure>
         ensures fault { IfErr result IsFault };
 
-    /// Takes up that this store is to be served. That is done after the run: clients come for as long as they like, and a run ends.
-    fn serve(&mut self, store: &str, serving: Serving) -> Result<(), Failure>
-        ensures taken { OnOk result (is_to_serve self.new store.now serving) }
+    /// Where a store is served, before a port is open.
+    fn service(&mut self) -> Result<Self::Service, Failure>
+        ensures fault { IfErr result IsFault };
+
+    /// Takes up that this store is to be served to many clients at once. That is done after the run.
+    fn serve_at_once(&mut self, store: &str, serving: Serving) -> Result<(), Failure>
         ensures fault { IfErr result IsFault };
 }

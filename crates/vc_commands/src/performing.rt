@@ -49,7 +49,7 @@ where
     I: Read + Drop,
     O: Write,
     E: Write,
-    ensures { Performs S.Files.content S.is_durable (record { honest = S.Files.honest; trees_honest = T.Tree.honest; can_hold = T.can_hold trees.old; own = T.own trees.old; bodies = H.bodies host.old; input = I.remaining input.stream }) lists.entry request.now.store.now (S.content stores.old) (S.content stores.new) (T.trees trees.old) (T.trees trees.new) (O.contents output.old) (O.contents output.new) (record { says = H.Server.says; remaining = H.Server.Answer.remaining; is_at = H.is_at; is_to_serve = H.is_to_serve host.new }) request.now.task result }
+    ensures { Performs S.Files.content S.is_durable (record { honest = S.Files.honest; trees_honest = T.Tree.honest; can_hold = T.can_hold trees.old; own = T.own trees.old; bodies = H.bodies host.old; input = I.remaining input.stream }) lists.entry request.now.store.now (S.content stores.old) (S.content stores.new) (T.trees trees.old) (T.trees trees.new) (O.contents output.old) (O.contents output.new) (record { honest = H.Service.Files.honest; content = H.Service.Files.content; failed = H.Service.Files.failed; can_fail = H.Service.Files.can_fail; writes_left = H.Service.Files.left; remaining = H.Service.Reader.remaining; losses = H.Service.Reader.failed; can_lose = H.Service.Reader.can_fail; contents = H.Service.Writer.contents; heard = H.Service.Clients.heard; is_open = H.Service.is_open; has = H.Service.has }) (record { says = H.Server.says; remaining = H.Server.Answer.remaining; is_at = H.is_at }) request.now.task result }
 {
     let store = request.store;
     match request.task {

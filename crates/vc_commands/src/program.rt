@@ -10,7 +10,7 @@ ghost use Rattle.vc_cli.specs.Stores.{IsUnopened, StoresStay};
 ghost use Rattle.vc_commands.specs.Performs.{Found};
 ghost use Rattle.vc_commands.specs.Running.{EndsSo, IsExplained, IsStatusOf, IsToldSo, Runs, RunsFor, TellsFailure};
 
-use crate::folder_host::{FolderHost, ToServe, serve_store};
+use crate::folder_host::{AtOnce, FolderHost, serve_many};
 use crate::host::Host;
 use crate::performing::perform;
 use clap::error::ErrorKind;
@@ -30,11 +30,13 @@ use vc_arguments::{
 use vc_cli::{Failure, Faults, FolderStores, Stores};
 use vc_files::Fault;
 use vc_reading::{Input, Lists, line_of_refusal};
+use vc_serving::{FolderService, Service};
 use vc_work_folder::Beside;
 use vc_working::{FolderTrees, WorkTrees};
 
 /// Does what the words ask for and gives the exit status: 0 done, 1 refused, 2 a command line that is off, 3 a
-/// fault. Answers go to `output`, everything else to `faults`, but how far a long message is to `progress`. The first word is the program's name. A command that writes to its store waits for another one that does.
+/// fault. Answers go to `output`, everything else to `faults`, but how far a long message is to `progress`, and what a server tells of its
+/// connections to `log`. The first word is the program's name. A command that writes to its store waits for another one that does.
 pub fn run<R, W, I, O, E, P>(
     rt: &R,
     words: &[W],
@@ -42,6 +44,7 @@ pub fn run<R, W, I, O, E, P>(
     output: &mut O,
     faults: &mut Faults<E>,
     progress: Faults<P>,
+    log: Faults<P>,
 ) -> u8
 where
     W: AsStr,
@@ -64,10 +67,58 @@ where
     E: Write + Send,
     P: Write + Drop,
 {
+    let (status, at_once) = run_serving(rt, words, input, output, faults, progress, log);
+    match at_once {
+        Some(at_once) => end_at_once(rt, &at_once, output, faults),
+        None => status,
+    }
+}
+
+// The run over the folders and ports of this machine, and what it took up and did not do.
+fn run_serving<R, W, I, O, E, P>(
+    rt: &R,
+    words: &[W],
+    input: Input<I>,
+    output: &mut O,
+    faults: &mut Faults<E>,
+    progress: Faults<P>,
+    log: Faults<P>,
+) -> (u8, Option<AtOnce>)
+where
+    W: AsStr,
+    R: rt::Files<File = File> + Threads + Net + Clock + Beside<R> + AllocGlobal + Clone + Drop,
+    I: Read + Drop,
+    O: Write,
+    E: Write,
+    P: Write + Drop,
+{
+    let service = FolderService::new(rt, log);
+    run_here(rt, service, words, input, output, faults, progress)
+}
+
+// The run over the folders of this machine, and what it took up and did not do.
+fn run_here<'a, R, V, W, I, O, E, P>(
+    rt: &'a R,
+    service: V,
+    words: &[W],
+    input: Input<I>,
+    output: &mut O,
+    faults: &mut Faults<E>,
+    progress: Faults<P>,
+) -> (u8, Option<AtOnce>)
+where
+    W: AsStr,
+    R: rt::Files<File = File> + Threads + Net + Beside<R> + AllocGlobal + Clone + Drop,
+    V: Service<FolderStores<'a, R>> + Drop,
+    I: Read + Drop,
+    O: Write,
+    E: Write,
+    P: Write + Drop,
+{
     let alloc = rt.alloc();
     let mut stores = FolderStores::new(rt);
     let mut trees = FolderTrees::new(rt);
-    let mut host = FolderHost::new(rt, progress);
+    let mut host = FolderHost::new(rt, progress, service);
     let status = run_with(
         alloc,
         &mut stores,
@@ -78,14 +129,11 @@ where
         output,
         faults,
     );
-    match host.into_served() {
-        Some(to_serve) => end_serving(rt, &to_serve, output, faults),
-        None => status,
-    }
+    (status, host.into_at_once())
 }
 
-// Serves a store, and gives the status.
-fn end_serving<R, O, E>(rt: &R, to_serve: &ToServe, output: &mut O, faults: &mut Faults<E>) -> u8
+// Serves a store to many clients at once, and gives the status.
+fn end_at_once<R, O, E>(rt: &R, at_once: &AtOnce, output: &mut O, faults: &mut Faults<E>) -> u8
 where
     R: rt::Files<File = File>
         + Threads
@@ -103,11 +151,11 @@ where
     O: Write,
     E: Write + Send,
 {
-    let answer = serve_store(rt, to_serve, output, faults);
+    let answer = serve_many(rt, at_once, output, faults);
     let request = Request {
-        store: to_serve.store.as_str(),
+        store: at_once.store.as_str(),
         is_named: true,
-        task: Task::Remote(RemoteTask::Serve(to_serve.serving)),
+        task: Task::Remote(RemoteTask::Serve(at_once.serving)),
     };
     let lists = Lists {
         terms: "",
@@ -138,7 +186,7 @@ where
     I: Read + Drop,
     O: Write,
     E: Write,
-    ensures runs { Runs S.Files.content S.is_durable (record { honest = S.Files.honest; trees_honest = T.Tree.honest; can_hold = T.can_hold trees.old; own = T.own trees.old; bodies = H.bodies host.old; input = I.remaining input.stream }) (S.content stores.old) (S.content stores.new) (T.trees trees.old) (T.trees trees.new) (O.contents output.old) (O.contents output.new) (record { says = H.Server.says; remaining = H.Server.Answer.remaining; is_at = H.is_at; is_to_serve = H.is_to_serve host.new }) (map W.text words.now) result }
+    ensures runs { Runs S.Files.content S.is_durable (record { honest = S.Files.honest; trees_honest = T.Tree.honest; can_hold = T.can_hold trees.old; own = T.own trees.old; bodies = H.bodies host.old; input = I.remaining input.stream }) (S.content stores.old) (S.content stores.new) (T.trees trees.old) (T.trees trees.new) (O.contents output.old) (O.contents output.new) (record { honest = H.Service.Files.honest; content = H.Service.Files.content; failed = H.Service.Files.failed; can_fail = H.Service.Files.can_fail; writes_left = H.Service.Files.left; remaining = H.Service.Reader.remaining; losses = H.Service.Reader.failed; can_lose = H.Service.Reader.can_fail; contents = H.Service.Writer.contents; heard = H.Service.Clients.heard; is_open = H.Service.is_open; has = H.Service.has }) (record { says = H.Server.says; remaining = H.Server.Answer.remaining; is_at = H.is_at }) (map W.text words.now) result }
 {
     match obey(alloc, stores, trees, host, words, input, output, faults) {
         Ok(status) => status,
@@ -165,7 +213,7 @@ where
     I: Read + Drop,
     O: Write,
     E: Write,
-    ensures { EndsSo (Runs S.Files.content S.is_durable (record { honest = S.Files.honest; trees_honest = T.Tree.honest; can_hold = T.can_hold trees.old; own = T.own trees.old; bodies = H.bodies host.old; input = I.remaining input.stream }) (S.content stores.old) (S.content stores.new) (T.trees trees.old) (T.trees trees.new) (O.contents output.old) (O.contents output.new) (record { says = H.Server.says; remaining = H.Server.Answer.remaining; is_at = H.is_at; is_to_serve = H.is_to_serve host.new }) (map W.text words.now)) result }
+    ensures { EndsSo (Runs S.Files.content S.is_durable (record { honest = S.Files.honest; trees_honest = T.Tree.honest; can_hold = T.can_hold trees.old; own = T.own trees.old; bodies = H.bodies host.old; input = I.remaining input.stream }) (S.content stores.old) (S.content stores.new) (T.trees trees.old) (T.trees trees.new) (O.contents output.old) (O.contents output.new) (record { honest = H.Service.Files.honest; content = H.Service.Files.content; failed = H.Service.Files.failed; can_fail = H.Service.Files.can_fail; writes_left = H.Service.Files.left; remaining = H.Service.Reader.remaining; losses = H.Service.Reader.failed; can_lose = H.Service.Reader.can_fail; contents = H.Service.Writer.contents; heard = H.Service.Clients.heard; is_open = H.Service.is_open; has = H.Service.has }) (record { says = H.Server.says; remaining = H.Server.Answer.remaining; is_at = H.is_at }) (map W.text words.now)) result }
 {
     let program = command(alloc)?;
     match program.try_get_matches_from(words) {
@@ -192,7 +240,7 @@ where
     I: Read + Drop,
     O: Write,
     E: Write,
-    ensures { EndsSo (RunsFor S.Files.content S.is_durable (record { honest = S.Files.honest; trees_honest = T.Tree.honest; can_hold = T.can_hold trees.old; own = T.own trees.old; bodies = H.bodies host.old; input = I.remaining input.stream }) (S.content stores.old) (S.content stores.new) (T.trees trees.old) (T.trees trees.new) (O.contents output.old) (O.contents output.new) (record { says = H.Server.says; remaining = H.Server.Answer.remaining; is_at = H.is_at; is_to_serve = H.is_to_serve host.new }) (subcommand_rows_of matches.now)) result }
+    ensures { EndsSo (RunsFor S.Files.content S.is_durable (record { honest = S.Files.honest; trees_honest = T.Tree.honest; can_hold = T.can_hold trees.old; own = T.own trees.old; bodies = H.bodies host.old; input = I.remaining input.stream }) (S.content stores.old) (S.content stores.new) (T.trees trees.old) (T.trees trees.new) (O.contents output.old) (O.contents output.new) (record { honest = H.Service.Files.honest; content = H.Service.Files.content; failed = H.Service.Files.failed; can_fail = H.Service.Files.can_fail; writes_left = H.Service.Files.left; remaining = H.Service.Reader.remaining; losses = H.Service.Reader.failed; can_lose = H.Service.Reader.can_fail; contents = H.Service.Writer.contents; heard = H.Service.Clients.heard; is_open = H.Service.is_open; has = H.Service.has }) (record { says = H.Server.says; remaining = H.Server.Answer.remaining; is_at = H.is_at }) (subcommand_rows_of matches.now)) result }
 {
     refuse_unnamed_folder(alloc, matches)?;
     let terms = terms_of(alloc, matches)?;

@@ -1,6 +1,6 @@
-//! The subcommands that ask another process, `fetch` and `push`, and what a run has to do with `serve`.
+//! The subcommands that meet other processes: `serve`, `fetch` and `push`.
 ghost use Rattle.std.specs.Prelude.{◌≡◌, map};
-ghost use Rattle.vc_commands.specs.Remote.{FetchesFrom, PushesTo};
+ghost use Rattle.vc_commands.specs.Remote.{FetchesFrom, PushesTo, ServesTo, is_at_once};
 ghost use Rattle.vc_commands.specs.Performs.{PerformsRemote};
 
 use crate::exchanging::{fetch_from, push_to};
@@ -8,13 +8,14 @@ use crate::host::Host;
 use crate::performing::as_done;
 use std::alloc::Global;
 use std::io::Write;
-use vc_arguments::RemoteTask;
+use vc_arguments::{RemoteTask, Serving};
 use vc_cli::{Failure, Faults, Stores};
 use vc_push_items::items_of;
+use vc_serving::serve;
 use vc_transport::Place;
 
-/// Asks a served store, and returns whether all was done, or takes up that a store is to be served. A clone's lock is held while it is worked
-/// on, and not while an answer is waited for.
+/// Serves a store, or asks a served one, and returns whether all was done. The store's lock is held while it is worked on, and not while
+/// another process is waited for.
 pub(crate) fn exchange<S, H, O, E>(
     alloc: Global,
     stores: &mut S,
@@ -30,10 +31,12 @@ where
     H: Host<S>,
     O: Write,
     E: Write,
-    ensures { PerformsRemote (record { says = H.Server.says; remaining = H.Server.Answer.remaining; is_at = H.is_at; is_to_serve = H.is_to_serve host.new }) S.Files.honest store.now (map (λ word. word.now) words.now) (S.content stores.old) (S.content stores.new) (O.contents output.old) (O.contents output.new) task result }
+    ensures { PerformsRemote (record { honest = H.Service.Files.honest; content = H.Service.Files.content; failed = H.Service.Files.failed; can_fail = H.Service.Files.can_fail; writes_left = H.Service.Files.left; remaining = H.Service.Reader.remaining; losses = H.Service.Reader.failed; can_lose = H.Service.Reader.can_fail; contents = H.Service.Writer.contents; heard = H.Service.Clients.heard; is_open = H.Service.is_open; has = H.Service.has }) (record { says = H.Server.says; remaining = H.Server.Answer.remaining; is_at = H.is_at }) S.Files.honest store.now (map (λ word. word.now) words.now) (S.content stores.old) (S.content stores.new) (O.contents output.old) (O.contents output.new) task result }
 {
     match task {
-        RemoteTask::Serve(serving) => as_done(host.serve(store, serving)),
+        RemoteTask::Serve(serving) => as_done(serve_store(
+            alloc, stores, host, store, serving, output, faults,
+        )),
         RemoteTask::Fetch { port, timeout } => {
             let place = Place { port, timeout };
             as_done(fetch(alloc, stores, host, store, place, output, faults))
@@ -49,6 +52,37 @@ where
             )
         }
     }
+}
+
+// Whether many clients are served at once: by workers, or all that are counted, after these have come.
+fn is_at_once(serving: &Serving) -> bool
+    ensures { result ≡ is_at_once serving.now }
+{
+    serving.workers.is_some() || (serving.together && serving.count.is_some())
+}
+
+// Serves a store to one client after the other, or takes up that it is to be served to many at once.
+fn serve_store<S, H, O, E>(
+    alloc: Global,
+    stores: &mut S,
+    host: &mut H,
+    store: &str,
+    serving: Serving,
+    output: &mut O,
+    faults: &mut Faults<E>,
+) -> Result<(), Failure>
+where
+    S: Stores,
+    H: Host<S>,
+    O: Write,
+    E: Write,
+    ensures { ServesTo S.Files.honest store.now (S.content stores.old) (S.content stores.new) (O.contents output.old) (O.contents output.new) (record { honest = H.Service.Files.honest; content = H.Service.Files.content; failed = H.Service.Files.failed; can_fail = H.Service.Files.can_fail; writes_left = H.Service.Files.left; remaining = H.Service.Reader.remaining; losses = H.Service.Reader.failed; can_lose = H.Service.Reader.can_fail; contents = H.Service.Writer.contents; heard = H.Service.Clients.heard; is_open = H.Service.is_open; has = H.Service.has }) serving (is_at_once serving) result }
+{
+    if is_at_once(&serving) {
+        return host.serve_at_once(store, serving);
+    }
+    let mut service = host.service()?;
+    serve(alloc, stores, &mut service, store, serving, output, faults)
 }
 
 // Fetches into the clone in this store from the shared node at a place, and prints how many refs moved. What could not be told on a
@@ -67,7 +101,7 @@ where
     H: Host<S>,
     O: Write,
     E: Write,
-    ensures { FetchesFrom S.Files.honest store.now (S.content stores.old) (S.content stores.new) (O.contents output.old) (O.contents output.new) (record { says = H.Server.says; remaining = H.Server.Answer.remaining; is_at = H.is_at; is_to_serve = H.is_to_serve host.new }) place result }
+    ensures { FetchesFrom S.Files.honest store.now (S.content stores.old) (S.content stores.new) (O.contents output.old) (O.contents output.new) (record { says = H.Server.says; remaining = H.Server.Answer.remaining; is_at = H.is_at }) place result }
 {
     let lock = stores.lock(store, faults)?;
     let files = stores.open_locked(&lock)?;
@@ -101,7 +135,7 @@ where
     H: Host<S>,
     O: Write,
     E: Write,
-    ensures { PushesTo S.Files.honest store.now (S.content stores.old) (S.content stores.new) (O.contents output.old) (O.contents output.new) (record { says = H.Server.says; remaining = H.Server.Answer.remaining; is_at = H.is_at; is_to_serve = H.is_to_serve host.new }) place atomic (map (λ word. word.now) words.now) result }
+    ensures { PushesTo S.Files.honest store.now (S.content stores.old) (S.content stores.new) (O.contents output.old) (O.contents output.new) (record { says = H.Server.says; remaining = H.Server.Answer.remaining; is_at = H.is_at }) place atomic (map (λ word. word.now) words.now) result }
 {
     let lock = stores.lock(store, faults)?;
     let mut files = stores.open_locked(&lock)?;

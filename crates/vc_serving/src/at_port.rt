@@ -1,5 +1,5 @@
 // The clients at a port of this machine, one connection after the other.
-ghost use Rattle.std.specs.Prelude.{None};
+ghost use Rattle.std.specs.Prelude.{◌≡◌, None};
 
 use crate::clients::Clients;
 use crate::connection::Connection;
@@ -11,6 +11,7 @@ use std::cell::RefCell;
 use std::fs::File;
 use std::io::{self, BufReader, Read, Write};
 use std::net::{Net, OpenListener, OpenStream, SocketAddr};
+use std::rc::Rc;
 use std::rt;
 use std::thread::Threads;
 use std::time::{Clock, Duration};
@@ -44,39 +45,43 @@ enum Taken {
 /// The clients at a port: one connection after the other, so many or as many as come. One on which no message came whole counts as
 /// none. Nothing is claimed of what happens on a socket.
 #[derive(Drop)]
-pub(crate) struct AtPort<'a, R, E>
+pub struct AtPort<'a, R, E>
 where
     R: rt::Files<File = File> + Threads + Net + Clock + AllocGlobal + Clone + Drop,
-    E: Write,
+    E: Write + Drop,
 {
     rt: &'a R,
     // The store's folder.
-    store: &'a str,
-    places: &'a RefCell<Places<R>>,
-    listener: &'a R::Listener,
-    serving: Serving,
-    faults: &'a mut Faults<E>,
+    store: String,
+    places: Rc<RefCell<Places<R>>>,
+    listener: R::Listener,
+    /// How they are served.
+    pub serving: Serving,
+    // Where the ends of connections are told.
+    faults: Faults<E>,
     is_logged: bool,
     // How many connections were served.
     served: u32,
     // The connection whose messages are answered, but while one is.
-    open: Option<Connection<'a, R>>,
+    open: Option<Connection<R>>,
 }
 
 impl<'a, R, E> AtPort<'a, R, E>
 where
     R: rt::Files<File = File> + Threads + Net + Clock + AllocGlobal + Clone + Drop,
-    E: Write,
+    E: Write + Drop,
 {
     /// The clients that come to this listener, before the first of them.
     pub(crate) fn new(
         rt: &'a R,
-        store: &'a str,
-        places: &'a RefCell<Places<R>>,
-        listener: &'a R::Listener,
+        store: String,
+        places: Rc<RefCell<Places<R>>>,
+        listener: R::Listener,
         serving: Serving,
-        faults: &'a mut Faults<E>,
-    ) -> AtPort<'a, R, E> {
+        faults: Faults<E>,
+    ) -> AtPort<'a, R, E>
+        ensures { result.serving ≡ serving }
+    {
         AtPort {
             rt,
             store,
@@ -91,7 +96,7 @@ where
     }
 
     // The connection that is open, or else the next one; none once there were enough.
-    fn connection(&mut self) -> Result<Option<Connection<'a, R>>, Fault> {
+    fn connection(&mut self) -> Result<Option<Connection<R>>, Fault> {
         if let Some(connection) = self.open.take() {
             return Ok(Some(connection));
         }
@@ -107,7 +112,7 @@ where
     }
 
     // Takes the next connection. None if its client gave it up, or it has ended already.
-    fn accept(&mut self) -> Result<Option<Connection<'a, R>>, Fault> {
+    fn accept(&mut self) -> Result<Option<Connection<R>>, Fault> {
         let (stream, peer) = match self.listener.accept() {
             Ok(connection) => connection,
             Err(error) => {
@@ -119,7 +124,7 @@ where
         let talk = Talk::new();
         match buffered(self.rt, stream, self.serving.timeout) {
             Ok(Some(stream)) => Ok(Some(Connection {
-                places: self.places,
+                places: Rc::clone(&self.places)?,
                 stream,
                 peer,
                 begun,
@@ -148,7 +153,7 @@ where
     }
 
     // Closes a connection, counts it and tells of it.
-    fn finish(&mut self, connection: Connection<'a, R>) {
+    fn finish(&mut self, connection: Connection<R>) {
         let Connection {
             places: _,
             stream,
@@ -167,7 +172,7 @@ where
     // Ends a connection of which nothing more comes to the node.
     fn end(
         &mut self,
-        connection: Connection<'a, R>,
+        connection: Connection<R>,
         served: Result<Served, ServeFault>,
     ) -> Result<(), Fault> {
         let mut connection = connection;
@@ -181,12 +186,18 @@ where
     }
 
     // Takes the next message of a connection. From then on nobody takes objects from the store, until the answer is there.
-    fn take_message(&self, connection: &mut Connection<'a, R>) -> Result<Taken, ServeFault> {
+    fn take_message(&self, connection: &mut Connection<R>) -> Result<Taken, ServeFault> {
         let most = Most {
             short: SHORT,
             long: self.serving.limit.saturating_mul(MEBIBYTE),
         };
-        let kept = match keep(self.rt, self.store, most, UNBOUND, &mut connection.stream) {
+        let kept = match keep(
+            self.rt,
+            self.store.as_str(),
+            most,
+            UNBOUND,
+            &mut connection.stream,
+        ) {
             Ok(kept) => kept,
             Err(fault) => return Err(ServeFault::Fault(fault)),
         };
@@ -211,19 +222,19 @@ where
         if let Ok(front) = bytes.front() {
             talk.asked = kind_of(front);
         }
-        begin(self.places)?;
+        begin(&self.places)?;
         Ok(Taken::Message(bytes))
     }
 }
 
-impl<'a, R, E> Clients<Fallible<Spooled<File>>, Connection<'a, R>> for AtPort<'a, R, E>
+impl<'a, R, E> Clients<Fallible<Spooled<File>>, Connection<R>> for AtPort<'a, R, E>
 where
     R: rt::Files<File = File> + Threads + Net + Clock + AllocGlobal + Clone + Drop,
-    E: Write,
+    E: Write + Drop,
 {
     ghost heard = { λ _. None };
 
-    fn next(&mut self) -> Result<Option<(Fallible<Spooled<File>>, Connection<'a, R>)>, Fault> {
+    fn next(&mut self) -> Result<Option<(Fallible<Spooled<File>>, Connection<R>)>, Fault> {
         for _ in 0..u64::MAX {
             let Some(mut connection) = self.connection()? else {
                 return Ok(None);
@@ -243,7 +254,7 @@ where
     fn take(
         &mut self,
         _rest: Fallible<Spooled<File>>,
-        after: Connection<'a, R>,
+        after: Connection<R>,
         served: &Result<Served, ServeFault>,
     ) -> Result<(), Fault> {
         let mut connection = after;
@@ -305,14 +316,14 @@ where
 }
 
 // After it: all that the node stored is durable, and the store is others' again; or it is lost.
-fn settled<'a, R>(
-    connection: &mut Connection<'a, R>,
+fn settled<R>(
+    connection: &mut Connection<R>,
     served: &Result<Served, ServeFault>,
 ) -> Result<(), Fault>
 where
     R: rt::Files<File = File> + Threads + Net + AllocGlobal + Clone + Drop,
 {
-    settle(connection.places)?;
+    settle(&connection.places)?;
     let went = connection.went?;
     connection.talk.went = connection.talk.went.saturating_add(went);
     match served {

@@ -5,36 +5,58 @@ ghost use Rattle.vc_cli.specs.Failure.{IsFault};
 ghost use Rattle.vc_cli.specs.Stores.{OthersStay};
 ghost use Rattle.vc_local.specs.Opening.{IsOpenable, OpenableAs};
 ghost use Rattle.vc_serving.specs.Answering.{HoldsOpened};
-ghost use Rattle.vc_serving.specs.Served.{IsUnready, PrintsListening, listening_line};
+ghost use Rattle.vc_serving.specs.Served.{IsUnready, PrintsListening, ServesClients, ServesStore, listening_line};
 
 use crate::answering::make_shared;
-use crate::serving::serve_connections;
+use crate::in_turn::serve_in_turn;
+use crate::service::Service;
 use std::alloc::Global;
 use std::fs::File;
 use std::io::{self, Write};
 use std::net::Net;
 use std::rt;
 use std::thread::Threads;
-use std::time::Clock;
 use vc_arguments::Serving;
 use vc_cli::{Failure, Faults, FolderStores, Stores, print_text};
 use vc_transport::bind;
 
-/// Serves connections to the store in this folder, one after the other.
-pub fn serve<R, O, E>(
-    rt: &R,
+/// Serves connections to this store, one after the other, at the port that is asked for.
+pub fn serve<S, V, O, E>(
+    alloc: Global,
+    stores: &mut S,
+    service: &mut V,
     store: &str,
     serving: Serving,
     output: &mut O,
     faults: &mut Faults<E>,
 ) -> Result<(), Failure>
 where
-    R: rt::Files<File = File> + Threads + Net + Clock + AllocGlobal + Clone + Drop,
+    S: Stores,
+    V: Service<S>,
     O: Write,
     E: Write,
+    ensures served { ServesStore (record { honest = V.Files.honest; content = V.Files.content; failed = V.Files.failed; can_fail = V.Files.can_fail; writes_left = V.Files.left; remaining = V.Reader.remaining; losses = V.Reader.failed; can_lose = V.Reader.can_fail; contents = V.Writer.contents; heard = V.Clients.heard; is_open = V.is_open; has = V.has }) S.Files.honest store.now serving (S.content stores.old) (S.content stores.new) (O.contents output.old) (O.contents output.new) result }
 {
-    let listener = open_port(rt, store, serving.port, output, faults)?;
-    serve_connections(rt, store, &listener, serving, faults)?;
+    make_ready(alloc, stores, store, faults)?;
+    service.open(serving.port, faults)?;
+    print_listening(alloc, serving.port, output)?;
+    serve_clients(alloc, stores, service, store, serving)
+}
+
+// Serves the clients who come to the port that is open.
+fn serve_clients<S: Stores, V: Service<S>>(
+    alloc: Global,
+    stores: &mut S,
+    service: &mut V,
+    store: &str,
+    serving: Serving,
+) -> Result<(), Failure>
+    ensures { ServesClients (record { honest = V.Files.honest; content = V.Files.content; failed = V.Files.failed; can_fail = V.Files.can_fail; writes_left = V.Files.left; remaining = V.Reader.remaining; losses = V.Reader.failed; can_lose = V.Reader.can_fail; contents = V.Writer.contents; heard = V.Clients.heard; is_open = V.is_open; has = V.has }) service.old store.now serving (S.content stores.old) (S.content stores.new) result }
+{
+    let (files, mut clients) = service.begin(stores, store, serving)?;
+    let (files, ended) = serve_in_turn(alloc, files, &mut clients);
+    service.end(stores, store, files);
+    ended?;
     Ok(())
 }
 
@@ -73,8 +95,12 @@ where
     Ok(listener)
 }
 
-// Opens a port. If that can't be done, a person is told which one it is.
-fn bind_port<R, E>(rt: &R, port: u16, faults: &mut Faults<E>) -> Result<R::Listener, Failure>
+/// Opens a port. If that can't be done, a person is told which one it is.
+pub(crate) fn bind_port<R, E>(
+    rt: &R,
+    port: u16,
+    faults: &mut Faults<E>,
+) -> Result<R::Listener, Failure>
 where
     R: Net + AllocGlobal,
     E: Write,

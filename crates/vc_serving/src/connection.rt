@@ -8,6 +8,7 @@ use std::cell::RefCell;
 use std::fs::File;
 use std::io::{self, BufReader, Write};
 use std::net::{Net, SocketAddr};
+use std::rc::Rc;
 use std::rt;
 use std::thread::Threads;
 use std::time::Duration;
@@ -16,22 +17,22 @@ use vc_files::Fault;
 /// A connection, and what is told of it once it has ended. Nothing goes out on it before all that it tells of is durable and the store
 /// is others' again. Nothing is claimed of what it writes.
 #[derive(Drop)]
-pub(crate) struct Connection<'a, R>
+pub struct Connection<R>
 where
     R: rt::Files<File = File> + Threads + Net + AllocGlobal + Clone + Drop,
 {
-    pub places: &'a RefCell<Places<R>>,
-    pub stream: BufReader<R::Stream>,
+    pub(crate) places: Rc<RefCell<Places<R>>>,
+    pub(crate) stream: BufReader<R::Stream>,
     /// The other end.
-    pub peer: SocketAddr,
+    pub(crate) peer: SocketAddr,
     /// When it was taken.
-    pub begun: io::Result<Duration>,
-    pub talk: Talk,
+    pub(crate) begun: io::Result<Duration>,
+    pub(crate) talk: Talk,
     /// How many bytes of the answer went out, or why nothing was told.
-    pub went: Result<u64, Fault>,
+    pub(crate) went: Result<u64, Fault>,
 }
 
-impl<'a, R> Connection<'a, R>
+impl<R> Connection<R>
 where
     R: rt::Files<File = File> + Threads + Net + AllocGlobal + Clone + Drop,
 {
@@ -45,14 +46,14 @@ where
     }
 }
 
-impl<'a, R> Write for Connection<'a, R>
+impl<R> Write for Connection<R>
 where
     R: rt::Files<File = File> + Threads + Net + AllocGlobal + Clone + Drop,
 {
     ghost contents = { λ _. None };
 
     fn write(&mut self, buf: &[u8]) -> io::Result<usize> {
-        let mut settling = Settling::new(self.places, self.stream.get_mut());
+        let mut settling = Settling::new(&self.places, self.stream.get_mut());
         let written = settling.write(buf);
         let went = settling.outcome();
         self.note(went);
@@ -60,7 +61,7 @@ where
     }
 
     fn write_all(&mut self, buf: &[u8]) -> io::Result<()> {
-        let mut settling = Settling::new(self.places, self.stream.get_mut());
+        let mut settling = Settling::new(&self.places, self.stream.get_mut());
         let written = settling.write_all(buf);
         let went = settling.outcome();
         self.note(went);

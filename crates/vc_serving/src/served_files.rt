@@ -8,6 +8,7 @@ use std::alloc::Global;
 use std::cell::RefCell;
 use std::fs::File;
 use std::marker::Model;
+use std::rc::Rc;
 use std::rt;
 use std::thread::yield_now;
 use vc_cli::keep_objects;
@@ -216,16 +217,13 @@ where
 /// So a push is read, judged and put beside the store under no lock, a ref is set under the lock under which it was looked at, and
 /// another command waits for a thousand objects and for the refs of one push, and for no more.
 #[derive(Drop)]
-pub(crate) struct ServedFiles<
-    'a,
-    R: rt::Files<File = File> + Syncs<File> + AllocGlobal + Clone + Drop,
-> {
-    places: &'a RefCell<Places<R>>,
+pub struct ServedFiles<R: rt::Files<File = File> + Syncs<File> + AllocGlobal + Clone + Drop> {
+    places: Rc<RefCell<Places<R>>>,
     failed: u64,
 }
 
-impl<'a, R: rt::Files<File = File> + Syncs<File> + AllocGlobal + Clone + Drop> Model
-    for ServedFiles<'a, R> {
+impl<R: rt::Files<File = File> + Syncs<File> + AllocGlobal + Clone + Drop> Model
+    for ServedFiles<R> {
     ghost use Rattle.std.specs.Prelude.{ℕ};
 
     ghost Value = { ℕ };
@@ -233,12 +231,12 @@ impl<'a, R: rt::Files<File = File> + Syncs<File> + AllocGlobal + Clone + Drop> M
     ghost view = { λ s. s.failed };
 }
 
-impl<'a, R> ServedFiles<'a, R>
+impl<R> ServedFiles<R>
 where
     R: rt::Files<File = File> + Syncs<File> + AllocGlobal + Clone + Drop,
 {
     /// The files of this store.
-    pub(crate) fn new(places: &'a RefCell<Places<R>>) -> ServedFiles<'a, R> {
+    pub(crate) fn new(places: Rc<RefCell<Places<R>>>) -> ServedFiles<R> {
         ServedFiles { places, failed: 0 }
     }
 
@@ -258,7 +256,7 @@ where
     }
 }
 
-impl<'a, R> Files for ServedFiles<'a, R>
+impl<R> Files for ServedFiles<R>
 where
     R: rt::Files<File = File> + Syncs<File> + AllocGlobal + Clone + Drop,
 {

@@ -1,19 +1,8 @@
-//! The server of a shared node: one connection after the other, and on each one message after the other.
+//! What the end of a turn means for a connection, and for the server.
 ghost use Rattle.std.specs.Prelude.{◌≡◌};
 ghost use Rattle.vc_serving.specs.Turns.{going_on, has_come, is_enough};
 
-use crate::at_port::AtPort;
-use crate::in_turn::serve_in_turn;
-use crate::served_files::{Places, ServedFiles};
-use std::cell::RefCell;
-use std::fs::File;
-use std::io::{self, ErrorKind, Write};
-use std::net::Net;
-use std::rt;
-use std::thread::Threads;
-use std::time::Clock;
-use vc_arguments::Serving;
-use vc_cli::Faults;
+use std::io::{self, ErrorKind};
 use vc_files::Fault;
 use vc_message::IncomingFault;
 use vc_server::{ServeFault, Served};
@@ -21,26 +10,6 @@ use vc_transport::fault_of;
 
 /// How many bytes a mebibyte has.
 pub const MEBIBYTE: u64 = 1_048_576;
-
-/// Serves connections to the store in this folder, one after the other: so many, or until the process ends. Nothing is kept from
-/// message to message, so that other commands may change the store.
-pub(crate) fn serve_connections<R, E>(
-    rt: &R,
-    store: &str,
-    listener: &R::Listener,
-    serving: Serving,
-    faults: &mut Faults<E>,
-) -> Result<(), Fault>
-where
-    R: rt::Files<File = File> + Threads + Net + Clock + AllocGlobal + Clone + Drop,
-    E: Write,
-{
-    let places = RefCell::new(Places::new(rt, store)?);
-    let files = ServedFiles::new(&places);
-    let mut clients = AtPort::new(rt, store, &places, listener, serving, faults);
-    let (_, ended) = serve_in_turn(rt.alloc(), files, &mut clients);
-    ended
-}
 
 // Whether as many connections were served as there are to be.
 pub(crate) fn is_enough(served: u32, count: Option<u32>) -> bool
