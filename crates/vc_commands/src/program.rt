@@ -34,7 +34,8 @@ use vc_work_folder::Beside;
 use vc_working::{FolderTrees, WorkTrees};
 
 /// Does what the words ask for and gives the exit status: 0 done, 1 refused, 2 a command line that is off, 3 a
-/// fault. Answers go to `output`, everything else to `faults`, but how far a long message is to `progress`. The first word is the program's name. A command that writes to its store waits for another one that does.
+/// fault. Answers go to `output`, everything else to `faults`, but how far a long message is to `progress`. The first word is the program's
+/// name. A command that writes to its store waits for another one that does.
 pub fn run<R, W, I, O, E, P>(
     rt: &R,
     words: &[W],
