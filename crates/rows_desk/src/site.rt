@@ -69,13 +69,7 @@ impl Site {
             return out.push_str("no node");
         };
         let connections = mem::replace(&mut self.connections, Vec::new(self.alloc));
-        let gate = Turnstile::new();
-        let served = serve_all(rt, self.alloc, u64::MAX, node, connections, &gate);
-        push_served(out, &served)?;
-        if gate.ran_out() {
-            return out.push_str(", the turns ran out");
-        }
-        Ok(())
+        serve_node(rt, self.alloc, node, connections, out)
     }
 
     /// The connections are served by so many workers, and what came of them is told.
@@ -108,4 +102,23 @@ impl Site {
         }
         Ok(())
     }
+}
+
+// All connections are served at once, and what came of them is told. What was served is let go of at one place.
+fn serve_node<T: Threads + Wait + Sync>(
+    rt: &T,
+    alloc: Global,
+    node: Shared<MemoryFiles>,
+    connections: Vec<Connection>,
+    out: &mut String,
+) -> Result<(), AllocError> {
+    let gate = Turnstile::new();
+    let served = serve_all(rt, alloc, u64::MAX, node, connections, &gate);
+    let told = push_served(out, &served);
+    mem::drop(served);
+    told?;
+    if gate.ran_out() {
+        return out.push_str(", the turns ran out");
+    }
+    Ok(())
 }

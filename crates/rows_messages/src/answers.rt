@@ -1,4 +1,7 @@
 //! Rows about a node: files that rows set up, the answer to a want, and the judgement of a pack.
+ghost use Rattle.std.specs.Prelude.{◌≡◌};
+ghost use Rattle.vc_known.specs.Known.{Agrees};
+ghost use Rattle.vc_object_map.specs.Store.{objects};
 
 use crate::messages::object_of;
 use crate::spelling::{ids_of, push_bytes, push_id, spelled};
@@ -8,6 +11,7 @@ use std::fmt::Write;
 use vc_fetch::{Pack, Want};
 use vc_files::{Files, MemoryFiles};
 use vc_graph::GraphFault;
+use vc_known::Known;
 use vc_object::ObjectId;
 use vc_pack::{AnswerFault, answer_want, judge_pack};
 use vc_store::Store;
@@ -71,7 +75,48 @@ fn push_pack(out: &mut String, alloc: Global, pack: &Pack) -> Result<(), AllocEr
     push_bytes(out, &bytes, " ")
 }
 
-/// The pack that answers wants and haves, as it is written.
+// What a want is answered, as it is written.
+fn told<F: Files>(
+    alloc: Global,
+    files: &mut F,
+    known: &mut Known,
+    learns: bool,
+    want: &Want,
+) -> Result<String, AllocError>
+    requires agrees { F.honest → Agrees (objects (F.content files.old)) known.old }
+    ensures known { F.honest → Agrees (objects (F.content files.old)) known.new }
+    ensures same { F.content files.new ≡ F.content files.old }
+{
+    let mut out = String::new(alloc);
+    match answer_want(alloc, files, known, learns, want) {
+        Ok(pack) => push_pack(&mut out, alloc, &pack)?,
+        Err(fault) => push_refusal(&mut out, &fault)?,
+    }
+    Ok(out)
+}
+
+// The same if nothing is known; and what is answered otherwise if that is learnt from, and after it was.
+fn push_answers<F: Files>(
+    out: &mut String,
+    alloc: Global,
+    files: &mut F,
+    want: &Want,
+) -> Result<(), AllocError> {
+    let first = told(alloc, files, &mut Known::new(alloc), false, want)?;
+    let mut known = Known::new(alloc);
+    let learning = told(alloc, files, &mut known, true, want)?;
+    let again = told(alloc, files, &mut known, true, want)?;
+    out.push_str(first.as_str())?;
+    for other in [learning.as_str(), again.as_str()] {
+        if other != first.as_str() {
+            out.push_str(" otherwise ")?;
+            out.push_str(other)?;
+        }
+    }
+    Ok(())
+}
+
+/// The pack that answers wants and haves, as it is written. The same is asked twice of what learns from it.
 pub fn answer(
     out: &mut String,
     alloc: Global,
@@ -81,10 +126,7 @@ pub fn answer(
     let (wants, haves) = text.split_once(' ').unwrap_or((text, "-"));
     let wants = ids_of(alloc, wants)?;
     let haves = ids_of(alloc, haves)?;
-    match answer_want(alloc, files, &Want { wants, haves }) {
-        Ok(pack) => push_pack(out, alloc, &pack),
-        Err(fault) => push_refusal(out, &fault),
-    }
+    push_answers(out, alloc, files, &Want { wants, haves })
 }
 
 fn push_verdict(

@@ -6,6 +6,7 @@ use Rattle.std.proofs.MapsCrossing.{crosses as maps}
 use Rattle.std.specs.contracts.sync.Mutex as Mutex
 use Rattle.vc_files.specs.declared.Files as files
 use Rattle.vc_history.specs.contracts.generations.Generations as Generations
+use Rattle.vc_known.specs.contracts.known.Known as Known
 use Rattle.vc_session.specs.contracts.session.PushSession as Session
 use Rattle.vc_shared.specs.contracts.opening.Opening as Opening
 use Rattle.vc_shared.specs.contracts.shared.Shared as Shared
@@ -18,6 +19,9 @@ use Rattle.vc_desk.proofs.entry.Entry.TheSendSync as entry
 generations_send : IsSend Generations.the_row
 generations_send = search (sendable, crosses, maps) depth 30
 
+known_send : IsSend Known.the_row
+known_send = let a = generations_send in search (sendable, crosses, maps) depth 30
+
 session_send : IsSend Session.the_row
 session_send = search (sendable, crosses) depth 30
 
@@ -26,7 +30,7 @@ opening_send = search (sendable, crosses) depth 30
 
 module _ (F : RattleType) (f : files.Ghosts F.Denot) (s : IsSend F) where
   shared_send : IsSend (Shared.the_row F f)
-  shared_send = let a = generations_send in let b = session_send in search (sendable, crosses) depth 30
+  shared_send = let a = generations_send in let b = session_send in let c = known_send in search (sendable, crosses) depth 40 fits 5000
 
   kept_send : IsSend (Kept.the_row F f)
   kept_send = let a = shared_send in let b = opening_send in let c = entry.the_send in search (sendable, crosses) depth 30

@@ -12,7 +12,7 @@ use Rattle.vc_rules.proofs.WholeLemmas.{refs_whole}
 use Rattle.vc_rules.specs.Git.{git}
 use Rattle.vc_rules.specs.OpenPushes.{HoldsContent}
 use Rattle.vc_push_rules.specs.Known.{AreRefsWhole}
-use Rattle.vc_quarantine.proofs.NumberLemmas.{agreement_same}
+use Rattle.vc_history.proofs.StoredLemmas.{numbers_same}
 use Rattle.vc_quarantine.specs.Known.{AreWhole}
 use Rattle.vc_quarantine.specs.declared.known.Known.{Known}
 use Rattle.vc_object_map.specs.Store.{objects}
@@ -38,11 +38,11 @@ whole_refs old new known r same whole held sound = subst (λ (f : FileMap). AreW
 
 -- so what is known is right there, where the generations agree
 pub right_refs : (old new : FileMap) (known : Known) (generations : Generations) (r : Repository) → new ≡ old → (AreRefsWhole old → AreWhole (objects old) known) → AgreesIn old generations → HoldsContent old r → IsSound git r → IsRight new known generations
-right_refs old new known generations r same whole agrees held sound = record { whole = whole_refs old new known r same whole held sound; agrees = agreement_same old new same generations agrees }
+right_refs old new known generations r same whole agrees held sound = record { whole = whole_refs old new known r same whole held sound; agrees = numbers_same old new same generations agrees }
 
 -- and what is known beside it
 pub right_more : (old first new : FileMap) (known more : Known) (generations : Generations) → first ≡ old → new ≡ first → more.histories ≡ known.histories → AreWhole (objects first) known → (IsClosedUnder (links_in (objects first)) known.objects.keys → IsClosedUnder (links_in (objects first)) more.objects.keys) → AgreesIn old generations → IsRight new more generations
-right_more old first new known more generations at same others whole closed agrees = record { whole = whole_more first new known more same others closed whole; agrees = agreement_same old new (same ∙ at) generations agrees }
+right_more old first new known more generations at same others whole closed agrees = record { whole = whole_more first new known more same others closed whole; agrees = numbers_same old new (same ∙ at) generations agrees }
 
 -- ---- what is learnt
 -- a fault claims nothing

@@ -2,7 +2,7 @@
 use Rattle.std.proofs.Common.{◌≡◌, ⊎_elim, List, Option, Some, refl, ap, ◌∙◌}
 use Rattle.std.specs.Prelude.{codes}
 use Rattle.std.specs.Option.{option_or}
-use Rattle.vc_pack.specs.Reached.{KeepsObjects}
+use Rattle.vc_history.specs.Stored.{KeepsObjects}
 use Rattle.vc_files.specs.FileMap.{FileMap, SameOutside}
 use Rattle.vc_object_map.specs.Overlay.{with_carried}
 use Rattle.vc_history.specs.Stored.{AgreesIn}
@@ -10,7 +10,8 @@ use Rattle.vc_history.specs.declared.generations.Generations.{Generations}
 use Rattle.vc_object.specs.Decoding.{StoredObject}
 use Rattle.vc_object.specs.declared.id.ObjectId.{ObjectId}
 use Rattle.vc_push_rules.proofs.FrameLemmas.{objects-same}
-use Rattle.vc_quarantine.proofs.NumberLemmas.{agreement_kept, agreement_migrated, agreement_same}
+use Rattle.vc_history.proofs.StoredLemmas.{numbers_kept, numbers_same}
+use Rattle.vc_quarantine.proofs.KeepingLemmas.{keeps_migrated}
 use Rattle.vc_push_rules.specs.Carrying.{objects_in}
 use Rattle.vc_quarantine.specs.Migrating.{migrated}
 use Rattle.vc_object_map.specs.Store.{object_path, objects}
@@ -37,9 +38,9 @@ module _ (old new : FileMap) where
 -- numbers that agreed agree where what is brought is stored
 pub agrees_stored : (old first mid seen : FileMap) (brought : List StoredObject) (generations : Generations) → first ≡ old → AreStored first mid brought → seen ≡ mid → AgreesIn old generations → AgreesIn seen generations
 agrees_stored old first mid seen brought generations at stored same agrees =
-    agreement_same mid seen same generations (agreement_kept first mid (keeps_stored first mid brought stored).at generations (agreement_same old first at generations agrees))
+    numbers_same mid seen same generations (numbers_kept first mid (keeps_stored first mid brought stored) generations (numbers_same old first at generations agrees))
 
 -- the same of what stood in the quarantine
 pub agrees_migrated : (old first mid seen : FileMap) (names : List ObjectId) (generations : Generations) → first ≡ old → ((id : ObjectId) → objects mid id ≡ migrated first 0 names id) → seen ≡ mid → AgreesIn old generations
     → AgreesIn seen generations
-agrees_migrated old first mid seen names generations at stored same agrees = agreement_same mid seen same generations (agreement_migrated first mid 0 names stored generations (agreement_same old first at generations agrees))
+agrees_migrated old first mid seen names generations at stored same agrees = numbers_same mid seen same generations (numbers_kept first mid (keeps_migrated first mid 0 names stored) generations (numbers_same old first at generations agrees))

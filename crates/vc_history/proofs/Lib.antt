@@ -3,6 +3,7 @@ pub mod GatheredLemmas
 pub mod GenerationLemmas
 pub mod HistoryLemmas
 pub mod LearntLemmas
+pub mod LinkLemmas
 pub mod NumberingLemmas
 pub mod StoredLemmas
 pub mod TowardLemmas

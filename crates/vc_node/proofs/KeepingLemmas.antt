@@ -1,11 +1,12 @@
 -- What a clone's calls leave of its objects: each stays. For what is kept of the tracking refs' reach.
 use Rattle.std.proofs.Common.{◌≡◌, ⊎_elim, List, Some, refl, ap, ◌∙◌, map, ◌++◌, ◌∷◌, [], ℕ}
-use Rattle.vc_pack.proofs.KeepsLemmas.{StandsIn-kept, keeps_map, keeps_same, keeps_then, with_object-keeps, with_objects-keeps}
+use Rattle.vc_known.proofs.StoredLemmas.{known_kept}
+use Rattle.vc_history.proofs.StoredLemmas.{keeps_map, keeps_same, keeps_then, numbers_kept, with_object-keeps, with_objects-keeps}
 use Rattle.vc_tracking.specs.Storing.{KeepsGood}
-use Rattle.vc_history.specs.Stored.{AgreesIn}
+use Rattle.vc_history.specs.Stored.{AgreesIn, KeepsObjects}
 use Rattle.vc_history.specs.declared.generations.Generations.{Generations}
-use Rattle.vc_pack.specs.Reached.{KeepsObjects, StandsIn}
-use Rattle.vc_pack.specs.declared.reached.Reached.{Reached}
+use Rattle.vc_known.specs.Known.{Agrees}
+use Rattle.vc_known.specs.declared.known.Known.{Known}
 use Rattle.vc_files.specs.FileMap.{FileMap}
 use Rattle.vc_index.specs.IndexMap.{IndexMap}
 use Rattle.vc_index.specs.WrittenTrees.{IsBegun, IsWritten, tree_object}
@@ -17,7 +18,6 @@ use Rattle.vc_refs.specs.declared.heads.Head.{Head}
 use Rattle.vc_refs.specs.declared.heads.Head.TheVariants as heads
 use Rattle.vc_object_map.specs.Store.{objects, with_objects}
 use Rattle.vc_quarantine.proofs.CleanLemmas.{bad_same, bad_then}
-use Rattle.vc_quarantine.proofs.NumberLemmas.{agreement_kept}
 use Rattle.vc_local.specs.Commit.{IsCommitted, WritesCommit, made_body, moved}
 use Rattle.vc_local.specs.Making.{IsCut, LeftByCommit, StoresTrees}
 use Rattle.vc_local.specs.Shown.{Shown, shown}
@@ -30,9 +30,9 @@ keeps_shown old new s is same = keeps_map old new (ap (λ (x : Shown). x.objects
 pub keeps_puts : (old new : FileMap) (puts : List StoredObject) → objects new ≡ with_objects (objects old) puts → KeepsObjects old new
 keeps_puts old new puts is = record { at = λ id o there. ap (λ (m : ObjectMap). m id) is ∙ with_objects-keeps (objects old) puts id o there }
 
--- what is kept of the tracking refs' reach stands then, and the generations that are known agree with what is stored
-pub both_kept : (old new : FileMap) (reached : Reached) (generations : Generations) → KeepsObjects old new → StandsIn old reached × AgreesIn old generations → StandsIn new reached × AgreesIn new generations
-both_kept old new reached generations keeps both = (StandsIn-kept old new reached keeps both.0, agreement_kept old new keeps.at generations both.1)
+-- what is known of objects agrees with what is stored then, and so do generations
+pub both_kept : (old new : FileMap) (known : Known) (generations : Generations) → KeepsObjects old new → Agrees (objects old) known × AgreesIn old generations → Agrees (objects new) known × AgreesIn new generations
+both_kept old new known generations keeps both = (known_kept old new known keeps both.0, numbers_kept old new keeps generations both.1)
 
 -- ---- an exchange
 pub good_same : (old new : FileMap) → new ≡ old → KeepsGood old new

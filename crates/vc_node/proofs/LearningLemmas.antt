@@ -11,12 +11,12 @@ use Rattle.vc_history.specs.Stored.{AgreesIn}
 use Rattle.vc_history.specs.declared.generations.Generations.{Generations}
 use Rattle.vc_object.specs.ObjectMap.{ObjectMap, parents_in}
 use Rattle.vc_object.specs.declared.id.ObjectId.{ObjectId}
-use Rattle.vc_pack.specs.Reached.{KeepsObjects}
+use Rattle.vc_history.specs.Stored.{KeepsObjects}
 use Rattle.vc_exchange.proofs.QuarantinedLemmas.{keeps_beside_slot}
 use Rattle.vc_refs.specs.RefMap.{RefMap}
 use Rattle.vc_refs.specs.Refs.{refs}
 use Rattle.vc_push_rules.proofs.FrameLemmas.{objects-of_slot, refs-of_slot}
-use Rattle.vc_quarantine.proofs.NumberLemmas.{agreement_kept}
+use Rattle.vc_history.proofs.StoredLemmas.{numbers_kept}
 use Rattle.vc_quarantine.specs.Learning.{IsLearnt, IsOfWhole, Learnt}
 use Rattle.vc_push_rules.specs.Quarantine.{quarantine_folder}
 use Rattle.vc_object_map.specs.Store.{objects}
@@ -53,7 +53,7 @@ module _ (old mid : FileMap) (outside : SameOutside (quarantine_folder 0) old mi
   slot_objects i id = objects-of_slot 0 old mid outside id i
 
   pub agrees_beside : (generations : Generations) → AgreesIn old generations → AgreesIn mid generations
-  agrees_beside = agreement_kept old mid (keeps_beside_slot old mid outside).at
+  agrees_beside = numbers_kept old mid (keeps_beside_slot old mid outside)
 
   judged_since : (new : FileMap) (known now : Learnt) → LearnsJudging mid new known now → LearnsJudging old new known now
   judged_since new known now j = record {
@@ -77,7 +77,7 @@ judged_unless A P (exchange.Fault fault) done up = absurd (true≢false (sym up)
 
 module _ {A : Type 0} (old mid new : FileMap) (known now : Learnt) (r : Result A ExchangeFault) (taking : LearnsTaking mid new known now r) (keeps : KeepsObjects mid new) (since : LearnsJudging mid new known now → LearnsJudging old new known now) where
   agrees_now : AgreesIn new now.generations
-  agrees_now = agreement_kept mid new keeps.at now.generations taking.agrees
+  agrees_now = numbers_kept mid new keeps now.generations taking.agrees
 
   failed_from : (e : ExchangeFault) → r ≡ Err e → LeavesLearnt (LearnsJudging old new known now ⊎ LearnsNothing old new known now) (not (takes_down (of_exchange e))) new now
   failed_from e was = record {

@@ -7,8 +7,8 @@ use Rattle.vc_local.proofs.CleanLemmas.{clean_same, clean_then}
 use Rattle.vc_local.specs.Clean.{KeepsClean}
 use Rattle.vc_node.proofs.ArrivedLemmas.{others_beside}
 use Rattle.vc_node.specs.Stored.{KeepsOwn}
-use Rattle.vc_pack.proofs.KeepsLemmas.{keeps_same, keeps_then}
-use Rattle.vc_pack.specs.Reached.{KeepsObjects}
+use Rattle.vc_history.proofs.StoredLemmas.{keeps_same, keeps_then}
+use Rattle.vc_history.specs.Stored.{KeepsObjects}
 use Rattle.vc_tracking.specs.Storing.{KeepsBeside}
 
 pub own_same : (old new : FileMap) → new ≡ old → KeepsOwn old new

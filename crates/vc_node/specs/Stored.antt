@@ -3,7 +3,7 @@ use Rattle.std.specs.Prelude.{◌≡◌, Result, OnErr}
 use Rattle.vc_exchange.specs.Quarantined.{KeepsOthers}
 use Rattle.vc_files.specs.FileMap.{FileMap}
 use Rattle.vc_local.specs.Clean.{KeepsClean}
-use Rattle.vc_pack.specs.Reached.{KeepsObjects}
+use Rattle.vc_history.specs.Stored.{KeepsObjects}
 
 -- No object is lost, and what is bad now was so before: of a call that stores objects itself.
 pub record KeepsStored (old new : FileMap) : Type 0 where

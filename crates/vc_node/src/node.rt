@@ -8,7 +8,7 @@ ghost use Rattle.vc_refs.specs.Packing.{IsPackedFrom};
 ghost use Rattle.vc_sending.specs.Sending.{machine_items};
 ghost use Rattle.vc_exchange.specs.Quarantined.{KeepsOthers};
 ghost use Rattle.vc_files.specs.declared.faults.Fault.TheVariants.{Memory};
-ghost use Rattle.vc_pack.specs.Reached.{KeepsObjects};
+ghost use Rattle.vc_history.specs.Stored.{KeepsObjects};
 ghost use Rattle.vc_tracking.specs.Storing.{KeepsBeside};
 ghost use Rattle.vc_message.specs.AnyMessage.{a_report};
 ghost use Rattle.vc_message.specs.AnyView.{message_text};
@@ -59,10 +59,10 @@ use vc_expression::Expr;
 use vc_files::{Files, FusedFiles};
 use vc_history::Generations;
 use vc_index::Index;
+use vc_known::Known;
 use vc_local::{NodeFault, Staged, Words, open_files, read_index};
 use vc_message::{Message, Source, skip_message};
 use vc_object::{Kind, Mode, ObjectId};
-use vc_pack::Reached;
 use vc_push::Report;
 use vc_refname::RefName;
 use vc_refs::Head;
@@ -81,9 +81,8 @@ pub struct CloneNode<F: Files> {
     alloc: Global,
     awaited: Awaited,
     is_up: bool,
-    // What the tracking refs reached at the last push. No call but a prune takes an object away, and that one forgets it, so it stands
-    // for them until the next one.
-    reached: Reached,
+    // What the tracking refs reached at pushes. No call but a prune takes an object away, and that one forgets it.
+    known: Known,
     // The index as the opening has read it, if no call has used the files since.
     index: Option<Index>,
     // What is known of the generations of commits. No call but a prune takes an object away, so it stands until then, or until the files
@@ -97,8 +96,9 @@ impl<F: Files> Model for CloneNode<F> {
     ghost use Rattle.std.specs.Coded.{codes};
     ghost use Rattle.std.specs.Prelude.{IfSome};
     ghost use Rattle.vc_history.specs.Stored.{AgreesIn};
-    ghost use Rattle.vc_history.specs.contracts.generations.Generations as known;
-    ghost use Rattle.vc_pack.specs.Reached.{StandsIn};
+    ghost use Rattle.vc_history.specs.contracts.generations.Generations as of_generations;
+    ghost use Rattle.vc_known.specs.Known.{Agrees};
+    ghost use Rattle.vc_object_map.specs.Store.{objects};
     ghost use Rattle.vc_quarantine.specs.Learning.{learnt_in};
     ghost use Rattle.vc_node.specs.Awaited.{awaited_text};
     ghost use Rattle.vc_node.specs.Held.{Held};
@@ -106,11 +106,11 @@ impl<F: Files> Model for CloneNode<F> {
 
     ghost Value = { Held F };
 
-    ghost coded = { Prim.hlevel (codes, known.the_row.coded) };
+    ghost coded = { Prim.hlevel (codes, of_generations.the_row.coded) };
 
     ghost view = { λ s. record { files = s.files; awaited = awaited_text s.awaited; is_up = s.is_up; learnt = learnt_in s.generations s.due } };
 
-    ghost invariant = { λ s. F.honest → (StandsIn (F.content s.files) s.reached × AgreesIn (F.content s.files) s.generations) × IfSome s.index (SpellsIndex (F.content s.files)) };
+    ghost invariant = { λ s. F.honest → (Agrees (objects (F.content s.files)) s.known × AgreesIn (F.content s.files) s.generations) × IfSome s.index (SpellsIndex (F.content s.files)) };
 }
 
 impl<F: Files> CloneNode<F> {
@@ -134,7 +134,7 @@ impl<F: Files> CloneNode<F> {
                 alloc,
                 awaited: Awaited::Nothing,
                 is_up: true,
-                reached: Reached::new(alloc),
+                known: Known::new(alloc),
                 index: Some(index),
                 generations: Generations::new(alloc),
                 due: Vec::new(alloc),
@@ -152,7 +152,7 @@ impl<F: Files> CloneNode<F> {
             alloc: _,
             awaited: _,
             is_up: _,
-            reached: _,
+            known: _,
             index: _,
             generations: _,
             due: _,
@@ -180,7 +180,7 @@ impl<F: Files> CloneNode<F> {
         ensures wear { Writes F.honest F.content F.failed F.can_fail F.left self.old.files self.new.files (TellsDevice result) }
     {
         self.awaited = Awaited::Nothing;
-        self.reached = Reached::new(self.alloc);
+        self.known = Known::new(self.alloc);
         self.index = None;
         self.generations = Generations::new(self.alloc);
         self.due = Vec::new(self.alloc);
@@ -509,13 +509,7 @@ impl<F: Files> CloneNode<F> {
             return Err(CloneFault::Node(NodeFault::Down));
         }
         self.index = None;
-        match push_message(
-            self.alloc,
-            &mut self.files,
-            &mut self.reached,
-            atomic,
-            items,
-        ) {
+        match push_message(self.alloc, &mut self.files, &mut self.known, atomic, items) {
             Ok(bytes) => Ok(bytes),
             Err(fault) => {
                 let fault = CloneFault::from(fault);

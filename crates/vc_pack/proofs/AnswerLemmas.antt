@@ -1,15 +1,16 @@
 -- What walks and their refusals say of a node's refs.
-use Rattle.std.proofs.Common.{◌≡◌, ⊎_elim, List, [], ◌∷◌, ◌++◌, Option, Some, None, is_some, IsSome, Contains, ◌↔◌, sym, ap, subst, ◌∙◌, refl, true≢false, arith, slice_get}
+use Rattle.std.proofs.Common.{◌≡◌, ◌⊎◌, ⊎_elim, List, [], ◌∷◌, ◌++◌, Option, Some, None, is_some, IsSome, Contains, ◌↔◌, sym, ap, subst, ◌∙◌, refl, true≢false, arith, slice_get}
 use Rattle.std.proofs.lemmas.List.Elements.{Contains-append_cases, Contains-append_left, Contains-append_right}
 use Rattle.std.specs.Option.{option_map}
 use Rattle.std.specs.Prelude.{⊤}
-use Rattle.vc_pack.specs.Answer.{IsOurs, IsNotOurs, IsRefValue, IsCounted, IsSent, IsFirstCounted}
+use Rattle.vc_fetch.specs.declared.want.Want.{Want}
+use Rattle.vc_pack.specs.Answer.{AreThoseReached, IsOurs, IsNotOurs, IsRefValue, IsCounted, IsSent, IsFirstCounted}
 use Rattle.vc_pack.specs.AnswerFault.{from_store, from_graph, IsRefusedWalk, IsRefusedAnswer, IsRefusedPack}
 use Rattle.vc_pack.specs.Picked.{IsFirst, IsPicked, BeginsWithFirst}
 use Rattle.vc_pack.specs.declared.fault.AnswerFault.{AnswerFault}
 use Rattle.vc_pack.specs.declared.fault.AnswerFault.TheVariants.{NotOurs, Incomplete, Refs, Graph, Fault}
 use Rattle.vc_files.specs.FileMap.{FileMap}
-use Rattle.vc_object_map.specs.Graph.{ReachedFrom, itself}
+use Rattle.vc_object_map.specs.Graph.{ReachedFrom}
 use Rattle.vc_object_map.specs.StoreFault.{IsMet}
 use Rattle.vc_graph.specs.GraphFault.{IsTold}
 use Rattle.vc_object_map.specs.Overlay.{with_carried}
@@ -92,11 +93,20 @@ module _ (content : FileMap) (values : List ObjectId) (are : (id : ObjectId) →
   ours_from_reached id h = record { value = h.root; is_value = (are h.root).0 h.is_root; reaches = h.reaches }
 
   -- a value of a ref is reached by it
-  pub ours_of_value : (id : ObjectId) → Contains values id → IsOurs content id
-  ours_of_value id h = record { value = id; is_value = (are id).0 h; reaches = itself }
-
   pub reached_from_ours : (id : ObjectId) → IsOurs content id → ReachedFrom (links_in (objects content)) values id
   reached_from_ours id h = record { root = h.value; is_root = (are h.value).1 h.is_value; reaches = h.reaches }
+
+  -- those of the wants and the haves that the values reach are those that a ref reaches
+  pub ours_of_those : (want : Want) (ids : List ObjectId) → AreThoseReached (objects content) values want ids
+      → (id : ObjectId) → Contains want.wants.items id ⊎ Contains want.haves.items id → Contains ids id ↔ IsOurs content id
+  ours_of_those want ids those id asked =
+      let both = those id asked in
+      (λ h. ours_from_reached id (both.0 h), λ h. both.1 (reached_from_ours id h))
+
+  -- a walk over the values is refused for what a ref reaches
+  pub refused_ours : (wants : List ObjectId) (e : GraphFault) → IsTold (objects content) (IsDamaged content) values e → IsRefusedAnswer content wants (from_graph e)
+  refused_ours wants e told =
+      refused_answer (IsOurs content) content wants (λ y h. h) (from_graph e) (refused_graph (IsOurs content) content values ours_from_reached e told)
 
 module _ (content : FileMap) where
   -- what is reached from what the refs reach is reached from the refs
@@ -124,6 +134,12 @@ module _ (content : FileMap) where
 
     pub from_sent : (wants : List ObjectId) (id : ObjectId) → IsSent content wants haves id → ReachedFrom (links_in (objects content)) wants id × ¬ ReachedFrom (links_in (objects content)) counted id
     from_sent wants id h = (h.wanted, λ r. h.lacked r.root (counted_is r.root r.is_root) r.reaches)
+
+    -- a walk over wants that are ours and the counted haves is refused for what a ref reaches
+    pub refused_sent : (wants : List ObjectId) → ((id : ObjectId) → Contains wants id → IsOurs content id) → (e : GraphFault) → IsTold (objects content) (IsDamaged content) (wants ++ counted) e
+        → IsRefusedAnswer content wants (from_graph e)
+    refused_sent wants wanted e told = refused_answer (IsOurs content) content wants (λ y h. h) (from_graph e)
+        (refused_graph (IsOurs content) content (wants ++ counted) (ours_of_both wants counted wanted (λ id h. (counted_is id h).ours)) e told)
 
     -- the first that was picked is the first that counts
     pub first_counted : (first : Option ObjectId) → IsHead counted first → IsFirstCounted content haves first

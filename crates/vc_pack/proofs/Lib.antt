@@ -1,10 +1,10 @@
 pub mod AmongLemmas
 pub mod AnswerLemmas
+pub mod BeyondLemmas
 pub mod JudgeLemmas
-pub mod KeepsLemmas
+pub mod OursLemmas
 pub mod PackLemmas
 pub mod PickedLemmas
-pub mod ReachedLemmas
 pub mod ReadingLemmas
 pub mod SentLemmas
 pub mod SetLemmas

@@ -9,11 +9,6 @@ parted_at xs n d here =
     sym (take-append-drop (n + 1) xs) ∙ ap (λ l. l ++ drop (n + 1) xs) (take_more xs n d here) ∙ append_assoc (take n xs) (get_or xs n d ∷ []) (drop (n + 1) xs)
 
 module _ {X : Type 0} (P : X → Type 0) where
-  -- what holds of the elements so far, and of the next, holds of those up to the next
-  pub all_more : (xs : List X) (n : ℕ) (d : X) → n < length xs → ((y : X) → Contains (take n xs) y → P y) → P (get_or xs n d) → (y : X) → Contains (take (n + 1) xs) y → P y
-  all_more xs n d here before next y h =
-      ⊎_elim (before y) (λ e. subst P e next) (Contains-push_cases (take n xs) (get_or xs n d) y (subst (λ l. Contains l y) (take_more xs n d here) h))
-
   -- the first of xs stays the first where more come behind
   IsFirst-more : (Other : X → Type 0) (xs more : List X) (x : X) → IsFirst P Other xs x → IsFirst P Other (xs ++ more) x
   IsFirst-more Other xs more x f = record {

@@ -1,15 +1,20 @@
 -- What a node answers to wants and haves (git-upload-pack; that wants and haves count only where a ref reaches them is
 -- this project's own rule).
-use Rattle.std.specs.Prelude.{◌≡◌, ◌⊎◌, ℕ, List, Option, Some, None, Contains}
+use Rattle.std.specs.Prelude.{◌≡◌, ◌⊎◌, ◌↔◌, ℕ, List, Option, Some, None, Contains}
+use Rattle.vc_fetch.specs.declared.want.Want.{Want}
 use Rattle.vc_files.specs.FileMap.{FileMap}
 use Rattle.vc_object_map.specs.Graph.{Reaches, ReachedFrom}
-use Rattle.vc_object.specs.ObjectMap.{links_in}
+use Rattle.vc_object.specs.ObjectMap.{ObjectMap, links_in}
 use Rattle.vc_object.specs.declared.id.ObjectId.{ObjectId}
 use Rattle.vc_refs.specs.Head.{head_of}
 use Rattle.vc_refs.specs.Refs.{refs}
 use Rattle.vc_refs.specs.declared.heads.Head.TheVariants as head
 use Rattle.vc_object_map.specs.Store.{objects}
 use Rattle.vc_pack.specs.Picked.{IsFirst}
+
+-- of the wants and the haves exactly those are among the ids that the roots reach
+abbrev pub AreThoseReached : ObjectMap → List ObjectId → Want → List ObjectId → Type 0
+AreThoseReached objects roots want ids = (id : ObjectId) → Contains want.wants.items id ⊎ Contains want.haves.items id → Contains ids id ↔ ReachedFrom (links_in objects) roots id
 
 module _ (content : FileMap) where
   -- the value of a ref, or HEAD itself where it is an id

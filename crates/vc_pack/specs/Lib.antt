@@ -2,6 +2,5 @@ pub mod Answer
 pub mod AnswerFault
 pub mod Brought
 pub mod Picked
-pub mod Reached
 pub mod Sent
 pub mod Printed

@@ -83,6 +83,14 @@ impl From<RefFault> for AnswerFault {
     }
 }
 
+impl From<Fault> for AnswerFault {
+    ghost from_gives = { λ fault e. e ≡ Fault fault };
+
+    fn from(fault: Fault) -> Self {
+        AnswerFault::Fault(fault)
+    }
+}
+
 impl From<AllocError> for AnswerFault {
     ghost from_gives = { λ _ e. e ≡ Fault Memory };
 

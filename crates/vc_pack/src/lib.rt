@@ -8,8 +8,8 @@ mod answer;
 mod counting;
 mod fault;
 mod judge;
+mod ours;
 mod pack_objects;
-mod reached;
 mod reading;
 mod values;
 
@@ -18,6 +18,5 @@ pub use counting::is_among;
 pub use fault::AnswerFault;
 pub use judge::{judge_pack, names_reached};
 pub use pack_objects::PackObjects;
-pub use reached::{Reached, what_is_reached_stands_while_objects_stay};
-pub use reading::{sent_beyond, sent_objects};
+pub use reading::sent_beyond;
 pub use values::ref_values;

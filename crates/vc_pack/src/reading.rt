@@ -1,22 +1,23 @@
 //! The objects of a store that are sent.
-ghost use Rattle.std.specs.Prelude.{◌≡◌, ◌++◌, ◌∷◌, [], map, IfOk, IfErr, IsErrOf, OnOk, Some};
-ghost use Rattle.vc_pack.specs.Reached.{IsSentUnlessKnown, StandsIn, links_beyond};
-ghost use Rattle.vc_pack.specs.Sent.{AreSentBeyond};
+ghost use Rattle.std.specs.Prelude.{◌≡◌, ◌++◌, ◌∷◌, [], map, IfOk, IfErr, IsErrOf, List, OnOk, Some};
+ghost use Rattle.vc_pack.specs.Sent.{AreSentBeyond, IsSentUnlessReached, links_beyond};
 ghost use Rattle.vc_files.specs.Failures.{Wears};
 ghost use Rattle.vc_object_map.specs.Complete.{AreComplete};
 ghost use Rattle.vc_graph.specs.GraphFault.{IsTold};
+ghost use Rattle.vc_known.specs.Reach.{IsReachOf, has_in};
 ghost use Rattle.vc_object.specs.Decoding.{StoredObject};
 ghost use Rattle.vc_object.specs.ObjectId.{IsSortedByName};
 ghost use Rattle.vc_object.specs.ObjectMap.{links_in};
+ghost use Rattle.vc_object.specs.declared.id.ObjectId.{ObjectId as Id};
 ghost use Rattle.vc_pkt.specs.Carried.{stored_name, with_object};
 ghost use Rattle.vc_pkt.specs.ObjectStreamView.{carried};
 ghost use Rattle.vc_object_map.specs.Store.{objects, IsDamaged};
 
-use crate::Reached;
 use indexmap::IndexSet;
 use std::alloc::Global;
 use vc_files::{Fault, Files};
 use vc_graph::GraphFault;
+use vc_known::Reach;
 use vc_object::{ObjectId, links};
 use vc_object_map::{StoreFault, add_names};
 use vc_pkt::{CarriedObjects, StreamObject};
@@ -47,74 +48,52 @@ fn send<F: Files>(
     Ok(ids)
 }
 
-// Adds the stored object with this name to those that are sent, unless the name is known. The answer is what it links to; nothing
-// where it is known, and then it isn't read.
-fn send_unless_known<F: Files>(
+// Adds the stored object with this name to those that are sent, unless the name is reached already. The answer is what it links to;
+// nothing if it is reached already, and then it isn't read.
+fn send_unless_reached<F: Files>(
     alloc: Global,
     files: &mut F,
-    known: &IndexSet<ObjectId>,
+    reach: &Reach<'_>,
     sent: &mut CarriedObjects,
     id: &ObjectId,
 ) -> Result<Vec<ObjectId>, GraphFault>
-    ensures links { F.honest → IfOk result (λ ids. links_beyond (links_in (objects (F.content files.old))) known.now.keys id.now ≡ Some ids.items) }
-    ensures sent { F.honest → OnOk result (IsSentUnlessKnown (F.content files.old) known.now.keys id.now (carried sent.old) (carried sent.new)) }
+    ensures links { F.honest → IfOk result (λ ids. links_beyond (links_in (objects (F.content files.old))) (has_in reach.now) id.now ≡ Some ids.items) }
+    ensures sent { F.honest → OnOk result (IsSentUnlessReached (F.content files.old) (has_in reach.now) id.now (carried sent.old) (carried sent.new)) }
     ensures refused { F.honest → IfErr result (IsTold (objects (F.content files.old)) (IsDamaged (F.content files.old)) (id.now ∷ [])) }
     ensures same { F.content files.new ≡ F.content files.old }
     ensures wear { Wears F.failed F.can_fail F.left files.old files.new (IsErrOf result (GraphFault.Store (StoreFault.Fault Fault.Device))) }
 {
-    if known.contains(id) {
+    if reach.has(id) {
         return Ok(Vec::new(alloc));
     }
     let ids = send(alloc, files, sent, id)?;
     Ok(ids)
 }
 
-/// The stored objects that the wants reach and the roots of what is reached do not, each taken by its name. What the wants reach
-/// is read down to the names that are reached already, which are not read; nothing of it may be absent.
+/// The stored objects that the wants reach and the roots of the reach do not, each taken by its name. What the wants reach is read down
+/// to the names that are reached already, which are not read; nothing of it may be absent.
 pub fn sent_beyond<F: Files>(
     alloc: Global,
     files: &mut F,
-    reached: &Reached,
+    reach: &Reach<'_>,
     wants: &[ObjectId],
 ) -> Result<CarriedObjects, GraphFault>
-    ensures sent { F.honest → StandsIn (F.content files.old) reached.now → IfOk result (λ sent. AreSentBeyond (F.content files.old) reached.now.roots.items wants.now (carried sent)) }
+    ensures sent { F.honest → (roots : List Id) → IsReachOf (objects (F.content files.old)) reach.now roots → IfOk result (λ sent. AreSentBeyond (F.content files.old) roots wants.now (carried sent)) }
     ensures sorted { F.honest → IfOk result (λ sent. IsSortedByName (map stored_name (carried sent))) }
-    ensures closed { F.honest → StandsIn (F.content files.old) reached.now → OnOk result (AreComplete (objects (F.content files.old)) (wants.now ++ reached.now.roots.items)) }
+    ensures closed { F.honest → (roots : List Id) → IsReachOf (objects (F.content files.old)) reach.now roots → OnOk result (AreComplete (objects (F.content files.old)) (wants.now ++ roots)) }
     ensures refused { F.honest → IfErr result (IsTold (objects (F.content files.old)) (IsDamaged (F.content files.old)) wants.now) }
     ensures same { F.content files.new ≡ F.content files.old }
     ensures wear { Wears F.failed F.can_fail F.left files.old files.new (IsErrOf result (GraphFault.Store (StoreFault.Fault Fault.Device))) }
 {
-    let known = &reached.names;
     let mut met = IndexSet::new(alloc);
     add_names(&mut met, wants)?;
     let mut sent = CarriedObjects::new(alloc);
     let mut next = 0;
     while next < met.len() {
         let id = met[next];
-        let ids = send_unless_known(alloc, files, known, &mut sent, &id)?;
+        let ids = send_unless_reached(alloc, files, reach, &mut sent, &id)?;
         add_names(&mut met, &ids)?;
         next += 1;
     }
-    Ok(sent)
-}
-
-/// The stored objects that the wants reach and the counted haves do not, each taken by its name. What either side reaches is
-/// read once, and nothing of it may be absent.
-pub fn sent_objects<F: Files>(
-    alloc: Global,
-    files: &mut F,
-    wants: &[ObjectId],
-    counted: &[ObjectId],
-) -> Result<CarriedObjects, GraphFault>
-    ensures sent { F.honest → IfOk result (λ sent. AreSentBeyond (F.content files.old) counted.now wants.now (carried sent)) }
-    ensures sorted { F.honest → IfOk result (λ sent. IsSortedByName (map stored_name (carried sent))) }
-    ensures closed { F.honest → OnOk result (AreComplete (objects (F.content files.old)) (wants.now ++ counted.now)) }
-    ensures refused { F.honest → IfErr result (IsTold (objects (F.content files.old)) (IsDamaged (F.content files.old)) (wants.now ++ counted.now)) }
-    ensures same { F.content files.new ≡ F.content files.old }
-    ensures wear { Wears F.failed F.can_fail F.left files.old files.new (IsErrOf result (GraphFault.Store (StoreFault.Fault Fault.Device))) }
-{
-    let mut reached = Reached::new(alloc);
-    reached.renew(alloc, files, counted)?;
-    let sent = sent_beyond(alloc, files, &reached, wants)?;
     Ok(sent)
 }

@@ -2,7 +2,7 @@ pub mod WearLemmas
 pub mod CleanLemmas
 pub mod SeenLemmas
 pub mod MigratingLemmas
-pub mod NumberLemmas
+pub mod KeepingLemmas
 pub mod DamageLemmas
 pub mod ArrivalLemmas
 pub mod KnownLemmas

@@ -1,7 +1,9 @@
 //! The two messages by which a clone begins: the list of a fetch, and a push.
 ghost use Rattle.std.specs.Prelude.{◌≡◌, ◌≢◌, [], ◌↔◌, nat_eq, codes, Contains, IfOk, IfErr, IsErrOf, OnOk, filter_map, map};
 ghost use Rattle.std.specs.List.{All, starts_with};
-ghost use Rattle.vc_pack.specs.Reached.{StandsIn};
+ghost use Rattle.vc_graph.specs.GraphFault.{IsTold};
+ghost use Rattle.vc_known.specs.Known.{Agrees, count_in, moments_in};
+ghost use Rattle.vc_known.specs.Layers.{last_roots};
 ghost use Rattle.vc_sending.specs.SendFault.{BlamesRefFile, IsRefusedPush, IsRefusedSend};
 ghost use Rattle.vc_sending.specs.Sending.{AreSent, IsPushOf, IsTracked, command_for, item_ids, known_value, tracked_in};
 ghost use Rattle.vc_sending.specs.SentPush.{DeclinesPush, SendsPush};
@@ -15,15 +17,17 @@ ghost use Rattle.vc_pkt.specs.Carried.{stored_name};
 ghost use Rattle.vc_pkt.specs.ObjectStreamView.{carried};
 ghost use Rattle.vc_push.specs.PushView.{command_of, commands_of, push_text};
 ghost use Rattle.vc_refname.specs.RefName.{IsRefName};
-ghost use Rattle.vc_object_map.specs.Store.{objects};
+ghost use Rattle.vc_object_map.specs.Store.{IsDamaged, objects};
 
 use crate::{PushItem, SendFault};
 use std::alloc::{AllocError, Global};
 use vc_fetch::List;
 use vc_files::{Fault, Files};
-use vc_graph::first_incomplete;
+use vc_graph::{GraphFault, first_incomplete};
+use vc_known::Known;
 use vc_object::ObjectId;
-use vc_pack::{Reached, sent_beyond};
+use vc_object_map::StoreFault;
+use vc_pack::sent_beyond;
 use vc_pkt::CarriedObjects;
 use vc_push::{Command, MAX_COMMANDS, Push};
 use vc_refname::{MAX_BRANCH, RefName};
@@ -148,25 +152,41 @@ fn refuse_incomplete<F: Files>(
     }
 }
 
-// The objects that the ids reach and the tracking refs do not. What is kept of the tracking refs' reach is renewed, and each object
-// is read that lies beyond it.
+// Makes the values of the tracking refs the roots of the last moment that is known.
+fn renew<F: Files>(
+    alloc: Global,
+    files: &mut F,
+    known: &mut Known,
+    tracked: &[ObjectId],
+) -> Result<(), GraphFault>
+    ensures agrees { F.honest → Agrees (objects (F.content files.old)) known.old → Agrees (objects (F.content files.old)) known.new }
+    ensures last { OnOk result (last_roots (moments_in known.new) (count_in known.new) ≡ tracked.now) }
+    ensures refused { F.honest → IfErr result (IsTold (objects (F.content files.old)) (IsDamaged (F.content files.old)) tracked.now) }
+    ensures same { F.content files.new ≡ F.content files.old }
+    ensures wear { Wears F.failed F.can_fail F.left files.old files.new (IsErrOf result (GraphFault.Store (StoreFault.Fault Fault.Device))) }
+{
+    known.renew(alloc, &mut Store::new(alloc, files), tracked)
+}
+
+// The objects that the ids reach and the tracking refs do not. What is known is renewed for the tracking refs, and each object is read
+// that lies beyond it.
 fn untracked_objects<F: Files>(
     alloc: Global,
     files: &mut F,
-    reached: &mut Reached,
+    known: &mut Known,
     ids: &[ObjectId],
 ) -> Result<CarriedObjects, SendFault>
-    ensures sent { F.honest → StandsIn (F.content files.old) reached.old → IfOk result (λ sent. AreSent (F.content files.old) ids.now (carried sent)) }
+    ensures sent { F.honest → Agrees (objects (F.content files.old)) known.old → IfOk result (λ sent. AreSent (F.content files.old) ids.now (carried sent)) }
     ensures sorted { F.honest → IfOk result (λ sent. IsSortedByName (map stored_name (carried sent))) }
-    ensures complete { F.honest → StandsIn (F.content files.old) reached.old → OnOk result (AreComplete (objects (F.content files.old)) ids.now) }
-    ensures stands { F.honest → StandsIn (F.content files.old) reached.old → StandsIn (F.content files.old) reached.new }
+    ensures complete { F.honest → Agrees (objects (F.content files.old)) known.old → OnOk result (AreComplete (objects (F.content files.old)) ids.now) }
+    ensures agrees { F.honest → Agrees (objects (F.content files.old)) known.old → Agrees (objects (F.content files.old)) known.new }
     ensures refused { F.honest → AreComplete (objects (F.content files.old)) ids.now → IfErr result (IsRefusedSend (F.content files.old) ids.now) }
     ensures same { F.content files.new ≡ F.content files.old }
     ensures wear { Wears F.failed F.can_fail F.left files.old files.new (IsErrOf result (SendFault.Fault Fault.Device)) }
 {
     let tracked = tracked_values(alloc, files)?;
-    reached.renew(alloc, files, &tracked)?;
-    let objects = sent_beyond(alloc, files, reached, ids)?;
+    renew(alloc, files, known, &tracked)?;
+    let objects = sent_beyond(alloc, files, &known.reach_of_last(alloc), ids)?;
     Ok(objects)
 }
 
@@ -175,13 +195,13 @@ fn untracked_objects<F: Files>(
 fn objects_for<F: Files>(
     alloc: Global,
     files: &mut F,
-    reached: &mut Reached,
+    known: &mut Known,
     ids: &[ObjectId],
 ) -> Result<CarriedObjects, SendFault>
-    ensures sent { F.honest → StandsIn (F.content files.old) reached.old → IfOk result (λ sent. AreSent (F.content files.old) ids.now (carried sent)) }
+    ensures sent { F.honest → Agrees (objects (F.content files.old)) known.old → IfOk result (λ sent. AreSent (F.content files.old) ids.now (carried sent)) }
     ensures sorted { F.honest → IfOk result (λ sent. IsSortedByName (map stored_name (carried sent))) }
-    ensures complete { F.honest → StandsIn (F.content files.old) reached.old → OnOk result (AreComplete (objects (F.content files.old)) ids.now) }
-    ensures stands { F.honest → StandsIn (F.content files.old) reached.old → StandsIn (F.content files.old) reached.new }
+    ensures complete { F.honest → Agrees (objects (F.content files.old)) known.old → OnOk result (AreComplete (objects (F.content files.old)) ids.now) }
+    ensures agrees { F.honest → Agrees (objects (F.content files.old)) known.old → Agrees (objects (F.content files.old)) known.new }
     ensures refused { F.honest → IfErr result (IsRefusedSend (F.content files.old) ids.now) }
     ensures same { F.content files.new ≡ F.content files.old }
     ensures wear { Wears F.failed F.can_fail F.left files.old files.new (IsErrOf result (SendFault.Fault Fault.Device)) }
@@ -189,7 +209,7 @@ fn objects_for<F: Files>(
     if ids.is_empty() {
         return Ok(CarriedObjects::new(alloc));
     }
-    match untracked_objects(alloc, files, reached, ids) {
+    match untracked_objects(alloc, files, known, ids) {
         Ok(objects) => Ok(objects),
         Err(SendFault::Fault(fault)) => Err(SendFault::Fault(fault)),
         Err(fault) => {
@@ -203,20 +223,20 @@ fn objects_for<F: Files>(
 fn push_for<F: Files>(
     alloc: Global,
     files: &mut F,
-    reached: &mut Reached,
+    known: &mut Known,
     atomic: bool,
     items: &[PushItem],
 ) -> Result<Push, SendFault>
-    ensures push { F.honest → StandsIn (F.content files.old) reached.old → IfOk result (λ push. IsPushOf (F.content files.old) items.now (push_text push)) }
+    ensures push { F.honest → Agrees (objects (F.content files.old)) known.old → IfOk result (λ push. IsPushOf (F.content files.old) items.now (push_text push)) }
     ensures atomic { IfOk result (λ push. push.atomic ≡ atomic) }
     ensures legal { IfOk result (λ push. All (λ command. IsRefName command.name.items) push.commands.items) }
-    ensures stands { F.honest → StandsIn (F.content files.old) reached.old → StandsIn (F.content files.old) reached.new }
+    ensures agrees { F.honest → Agrees (objects (F.content files.old)) known.old → Agrees (objects (F.content files.old)) known.new }
     ensures refused { F.honest → IfErr result (IsRefusedSend (F.content files.old) (item_ids items.now)) }
     ensures same { F.content files.new ≡ F.content files.old }
     ensures wear { Wears F.failed F.can_fail F.left files.old files.new (IsErrOf result (SendFault.Fault Fault.Device)) }
 {
     let ids = item_ids(alloc, items)?;
-    let objects = objects_for(alloc, files, reached, &ids)?;
+    let objects = objects_for(alloc, files, known, &ids)?;
     let commands = commands_for(alloc, files, items)?;
     Ok(Push {
         atomic,
@@ -240,28 +260,28 @@ pub fn list_message(alloc: Global) -> Result<Vec<u8>, AllocError>
 /// More than 256 items are refused (84), and then the first id of which not all is there (40). The clone's files stay as
 /// they are.
 ///
-/// What is reached from the tracking refs is kept from one push to the next, and stands then for these refs; what it says is right
-/// where it stood for its roots before. Each object is read once that lies beyond it. Only where that is refused are the ids walked
-/// by themselves, to find the first of which not all is there.
+/// What the tracking refs reach is kept from one push to the next, as one moment more. It agrees with what is stored if it did before.
+/// Each object is read once that lies beyond it. Only if that is refused are the ids walked by themselves, to find the first of which not
+/// all is there.
 pub fn push_message<F: Files>(
     alloc: Global,
     files: &mut F,
-    reached: &mut Reached,
+    known: &mut Known,
     atomic: bool,
     items: &[PushItem],
 ) -> Result<Vec<u8>, SendFault>
     requires some { items.now ≢ [] }
-    ensures sent { F.honest → StandsIn (F.content files.old) reached.old → IfOk result (λ bytes. SendsPush (F.content files.old) atomic items.now bytes.items) }
+    ensures sent { F.honest → Agrees (objects (F.content files.old)) known.old → IfOk result (λ bytes. SendsPush (F.content files.old) atomic items.now bytes.items) }
     ensures refused { F.honest → IfErr result (IsRefusedPush (F.content files.old) items.now) }
     ensures declined { F.honest → IfErr result (DeclinesPush (F.content files.old) items.now) }
-    ensures stands { F.honest → StandsIn (F.content files.old) reached.old → StandsIn (F.content files.old) reached.new }
+    ensures agrees { F.honest → Agrees (objects (F.content files.old)) known.old → Agrees (objects (F.content files.old)) known.new }
     ensures same { F.content files.new ≡ F.content files.old }
     ensures wear { Wears F.failed F.can_fail F.left files.old files.new (IsErrOf result (SendFault.Fault Fault.Device)) }
 {
     if items.len() > MAX_COMMANDS {
         return Err(SendFault::TooMany);
     }
-    let push = push_for(alloc, files, reached, atomic, items)?;
+    let push = push_for(alloc, files, known, atomic, items)?;
     let bytes = push.write(alloc)?;
     Ok(bytes)
 }

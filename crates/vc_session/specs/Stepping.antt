@@ -1,7 +1,7 @@
 -- What a step of an open push is handed, and what it leaves whatever the files are.
 use Rattle.std.specs.Prelude.{◌≡◌, ◌⊎◌, Bool, true, Result, IfOk, OnErr}
 use Rattle.vc_files.specs.FileMap.{FileMap}
-use Rattle.vc_history.specs.Stored.{AgreesIn, KeepsAgreement}
+use Rattle.vc_history.specs.Stored.{AgreesIn, KeepsObjects}
 use Rattle.vc_history.specs.declared.generations.Generations.{Generations}
 use Rattle.vc_push_rules.specs.Carrying.{HoldsNames}
 use Rattle.vc_push_rules.specs.Session.{SessionText, IsSession}
@@ -27,9 +27,8 @@ pub record TakesStep (s t : SessionText) (result : Result Stepped SessionFault) 
 abbrev pub LeavesPacked : Bool → FileMap → FileMap → Type 0
 LeavesPacked atomic old new = KeepsPacked old new ⊎ ((atomic ≡ true) × KeepsOutside old new)
 
--- What no step takes away: generations that agreed with the stored histories still do, no file becomes bad, and no ref is packed but by
--- an atomic push.
+-- What no step takes away: each object that was stored is stored, no file becomes bad, and no ref is packed but by an atomic push.
 pub record SparesFiles {F : Type 0} (honest : Type 0) (content : F → FileMap) (atomic : Bool) (old new : F) : Type 0 where
-  pub agrees : honest → KeepsAgreement (content old) (content new)
+  pub objects : honest → KeepsObjects (content old) (content new)
   pub bad : honest → MakesNoneBad (content old) (content new)
   pub packed : honest → LeavesPacked atomic (content old) (content new)

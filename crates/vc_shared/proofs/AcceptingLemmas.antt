@@ -155,6 +155,10 @@ module _ (P : SharedFault → Type 0) where
   slot_refused (Ok k) result is h = subst (λ (q : Result Accepted SharedFault). IfErr q P) (sym is) tt
   slot_refused (Err e) result is h = subst (λ (q : Result Accepted SharedFault). IfErr q P) (sym is) h
 
+  pub reply_refused : (r : Result (Vec ℕ Global) SharedFault) (result : Result Accepted SharedFault) → result ≡ reply_of r → IfErr r P → IfErr result P
+  reply_refused (Ok k) result is h = subst (λ (q : Result Accepted SharedFault). IfErr q P) (sym is) tt
+  reply_refused (Err e) result is h = subst (λ (q : Result Accepted SharedFault). IfErr q P) (sym is) h
+
 reply_device : (r : Result (Vec ℕ Global) SharedFault) → TellsDevice (reply_of r) ≡ TellsDevice r
 reply_device (Ok bytes) = refl
 reply_device (Err e) = refl

@@ -16,7 +16,13 @@ use Rattle.vc_rules.proofs.OpenPushLaws.{others_stay}
 use Rattle.vc_quarantine.specs.Clean.{MakesNoneBad}
 use Rattle.vc_quarantine.proofs.CleanLemmas.{bad_same}
 use Rattle.vc_push_rules.proofs.FrameLemmas.{other_slot}
-use Rattle.vc_quarantine.proofs.NumberLemmas.{agreement_same}
+use Rattle.vc_history.proofs.StoredLemmas.{keeps_same, numbers_kept}
+use Rattle.vc_history.specs.Stored.{AgreesIn, KeepsObjects}
+use Rattle.vc_history.specs.declared.generations.Generations.{Generations}
+use Rattle.vc_known.proofs.StoredLemmas.{known_kept}
+use Rattle.vc_known.specs.Known.{Agrees}
+use Rattle.vc_known.specs.declared.known.Known.{Known}
+use Rattle.vc_object_map.specs.Store.{objects}
 use Rattle.vc_push_rules.specs.Quarantine.{IsDropped, quarantine_folder}
 use Rattle.vc_push_rules.specs.Session.{SessionText}
 use Rattle.vc_push_rules.specs.Steps.{EndsUpdate, Steps}
@@ -99,6 +105,10 @@ slot_stays old new s t did slot small fits apart h bad (Some u) (Some q) (at, pu
 slot_stays old new s t did slot small fits apart h bad None (Some q) never = never
 slot_stays old new s t did slot small fits apart h bad (Some u) None never = never
 
+-- where each object stays, what is known of generations still agrees, and so does what is known of objects
+pub both_kept : (old new : FileMap) (generations : Generations) (known : Known) → KeepsObjects old new → AgreesIn old generations × Agrees (objects old) known → AgreesIn new generations × Agrees (objects new) known
+both_kept old new generations known keeps both = (numbers_kept old new keeps generations both.0, known_kept old new known keeps both.1)
+
 -- what changed nothing
 pub good_same : (old new : FileMap) → new ≡ old → KeepsGood old new
-good_same old new same = record { agrees = agreement_same old new same; bad = bad_same old new same }
+good_same old new same = record { objects = keeps_same old new same; bad = bad_same old new same }

@@ -2,7 +2,7 @@
 use Rattle.std.specs.Prelude.{◌≡◌, ◌<◌, ◌≤◌, ℕ, Bool, true, false, List, length, Option, Some, None}
 use Rattle.std.specs.FinMap.{get}
 use Rattle.vc_files.specs.FileMap.{FileMap}
-use Rattle.vc_history.specs.Stored.{KeepsAgreement}
+use Rattle.vc_history.specs.Stored.{KeepsObjects}
 use Rattle.vc_model.specs.Push.{OpenPush, Slots}
 use Rattle.vc_model.specs.Shared.{SharedNode, slot_count}
 use Rattle.vc_local.specs.Clean.{IsClean}
@@ -47,7 +47,7 @@ pub record HoldsShared (content : FileMap) (slots : List (Option SessionText)) (
   pub clean : IsClean content
   pub live : IsLive content slots is_up n.live
 
--- what is known of generations still agrees, and no file is made bad
+-- each object that was stored is stored, and no file is made bad
 pub record KeepsGood (old new : FileMap) : Type 0 where
-  pub agrees : KeepsAgreement old new
+  pub objects : KeepsObjects old new
   pub bad : MakesNoneBad old new

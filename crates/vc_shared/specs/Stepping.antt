@@ -2,7 +2,7 @@
 use Rattle.std.specs.Prelude.{◌≡◌, ◌⊎◌, ℕ, Bool, true, List, Option, Some, None, Result, Ok, Err, slice_set}
 use Rattle.std.specs.List.{All, flat_map}
 use Rattle.vc_files.specs.FileMap.{FileMap}
-use Rattle.vc_history.specs.Stored.{AgreesIn}
+use Rattle.vc_history.specs.Stored.{AgreesIn, KeepsObjects}
 use Rattle.vc_pkt.specs.Line.{spelling}
 use Rattle.vc_push.specs.Report.{IsShortTold, IsShortUnpack, report_lines}
 use Rattle.vc_push.specs.ReportView.{bytes_of, report_text, told_of}
@@ -97,10 +97,11 @@ abbrev pub LeavesPackedIn : FileMap → FileMap → Option SessionText → Type 
 LeavesPackedIn old new None = KeepsPacked old new
 LeavesPackedIn old new (Some s) = LeavesPacked s.atomic old new
 
--- what is known of generations agrees then, no file was made bad, no ref packed but by an atomic push, and a step that ended in no fault
+-- what is known of generations agrees then, each object that was stored is stored, no file was made bad, no ref packed but by an atomic push, and a step that ended in no fault
 -- has learnt what it had to
 pub record StepsWell (old new : FileMap) (slot : Option SessionText) (known now : Learnt) (is_up : Bool) : Type 0 where
   pub agrees : AgreesIn new now.generations
+  pub objects : KeepsObjects old new
   pub bad : MakesNoneBad old new
   pub packed : LeavesPackedIn old new slot
   pub learns : is_up ≡ true → LearnsIn old slot known now

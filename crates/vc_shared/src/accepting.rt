@@ -1,12 +1,14 @@
 //! A message that comes to the shared node.
 ghost use Rattle.std.specs.Prelude.{◌≡◌, ◌⊎◌, ℕ, IfErr, IfOk, OnErr};
 ghost use Rattle.vc_files.specs.Failures.{Wears, Writes};
+ghost use Rattle.vc_known.specs.Known.{Agrees};
 ghost use Rattle.vc_message.specs.AnyView.{message_text};
 ghost use Rattle.vc_message.specs.Machine.{IsUnread, Reads, TextOf};
 ghost use Rattle.vc_message.specs.Read.{WasRead};
 ghost use Rattle.vc_model.specs.Message.{Message as Sent};
 ghost use Rattle.vc_model.specs.Question.Question.{Unread};
 ghost use Rattle.vc_model.specs.SharedCall.SharedCall.{Accept, Asks};
+ghost use Rattle.vc_object_map.specs.Store.{objects};
 ghost use Rattle.vc_shared.specs.Accepting.{AnswersUp, IsAnsweredBytes, IsAnsweredMessage, IsRefusedBytes, IsRefusedMessage, IsToWrite};
 ghost use Rattle.vc_shared.specs.Faults.{TellsDevice};
 ghost use Rattle.vc_shared.specs.Holding.{KeepsGood};
@@ -19,6 +21,7 @@ use crate::pushing::open_push;
 use crate::serving::{answer, list};
 use std::alloc::Global;
 use vc_files::Files;
+use vc_known::Known;
 use vc_message::Message;
 use vc_session::PushSession;
 
@@ -54,11 +57,14 @@ pub(crate) fn take<F: Files>(
     alloc: Global,
     files: &mut F,
     slots: &mut [Option<PushSession>; 8],
+    known: &mut Known,
     message: Message,
 ) -> Result<Accepted, SharedFault>
     requires read { WasRead (message_text message) }
     requires tellable { AreTellable slots.old }
+    requires agrees { F.honest → Agrees (objects (F.content files.old)) known.old }
     ensures tellable { AreTellable slots.new }
+    ensures known { F.honest → Agrees (objects (F.content files.new)) known.new }
     ensures answers { F.honest → (m : Sent) → TextOf m (message_text message) → AnswersUp (Accept m) result (F.content files.old) (F.content files.new) slots.old slots.new }
     ensures answered { F.honest → IfOk result (IsAnsweredMessage (F.content files.old) (F.content files.new) slots.old slots.new (message_text message)) }
     ensures unchanged { OnErr result (slots.new ≡ slots.old) }
@@ -70,7 +76,7 @@ pub(crate) fn take<F: Files>(
 {
     match message {
         Message::List(_) => replied(list(alloc, files)),
-        Message::Want(want) => replied(answer(alloc, files, &want)),
+        Message::Want(want) => replied(answer(alloc, files, known, &want)),
         Message::Push(push) => opened(open_push(alloc, files, slots, push)),
         Message::Advert(_) => Err(SharedFault::Unexpected),
         Message::Pack(_) => Err(SharedFault::Unexpected),
@@ -84,10 +90,13 @@ pub(crate) fn accept<F: Files>(
     alloc: Global,
     files: &mut F,
     slots: &mut [Option<PushSession>; 8],
+    known: &mut Known,
     bytes: &[u8],
 ) -> Result<Accepted, SharedFault>
     requires tellable { AreTellable slots.old }
+    requires agrees { F.honest → Agrees (objects (F.content files.old)) known.old }
     ensures tellable { AreTellable slots.new }
+    ensures known { F.honest → Agrees (objects (F.content files.new)) known.new }
     ensures answers { F.honest → (m : Sent) → Reads bytes.now m → AnswersUp (Accept m) result (F.content files.old) (F.content files.new) slots.old slots.new }
     ensures unread { F.honest → (n : ℕ) → IsUnread bytes.now n → AnswersUp (Asks (Unread n)) result (F.content files.old) (F.content files.new) slots.old slots.new }
     ensures answered { F.honest → IfOk result (IsAnsweredBytes (F.content files.old) (F.content files.new) slots.old slots.new bytes.now) }
@@ -99,5 +108,5 @@ pub(crate) fn accept<F: Files>(
     ensures looks { (m : Sent) → Reads bytes.now m → IsToWrite m ⊎ Wears F.failed F.can_fail F.left files.old files.new (TellsDevice result) }
 {
     let message = Message::read(alloc, bytes)?;
-    take(alloc, files, slots, message)
+    take(alloc, files, slots, known, message)
 }

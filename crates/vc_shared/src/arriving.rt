@@ -2,7 +2,9 @@
 ghost use Rattle.std.specs.Prelude.{◌≡◌, ◌<◌, Bool, IfOk, IfErr, IfNone, IsErrOf, OnErr, OnOk};
 ghost use Rattle.vc_files.specs.FileMap.{SameOutside};
 ghost use Rattle.vc_files.specs.Failures.{Writes};
+ghost use Rattle.vc_known.specs.Known.{Agrees};
 ghost use Rattle.vc_message.specs.Source.{TellsFailures};
+ghost use Rattle.vc_object_map.specs.Store.{objects};
 ghost use Rattle.vc_push.specs.PushView.{commands_of, head_text};
 ghost use Rattle.vc_quarantine.specs.Clean.{IsQuarantineClean, MakesNoneBad};
 ghost use Rattle.vc_push_rules.specs.Quarantine.{quarantine_folder};
@@ -20,6 +22,7 @@ use crate::fault::SharedFault;
 use crate::pushing::lowest_free;
 use std::alloc::Global;
 use vc_files::{Fault, Files};
+use vc_known::Known;
 use vc_local::NodeFault;
 use vc_message::{
     Head, IncomingFault, Source, Taken, next_object, read_head, skip_pack, skip_push,
@@ -125,10 +128,13 @@ pub(crate) fn take_next<F: Files, R: Source>(
     alloc: Global,
     files: &mut F,
     slots: &mut [Option<PushSession>; 8],
+    known: &mut Known,
     reader: &mut R,
 ) -> Result<Option<Accepted>, AcceptFault>
     requires tellable { AreTellable slots.old }
+    requires agrees { F.honest → Agrees (objects (F.content files.old)) known.old }
     ensures tellable { AreTellable slots.new }
+    ensures known { F.honest → Agrees (objects (F.content files.new)) known.new }
     ensures accepts { AcceptsUp F.honest (R.remaining reader.old) (R.remaining reader.new) (F.content files.old) (F.content files.new) slots.old slots.new result }
     ensures none { IfOk result (λ found. IfNone found ((files.new ≡ files.old) × (slots.new ≡ slots.old))) }
     ensures unchanged { OnErr result (slots.new ≡ slots.old) }
@@ -142,7 +148,7 @@ pub(crate) fn take_next<F: Files, R: Source>(
     };
     let (head, taken) = found;
     match head {
-        Head::Message(message) => told(accepting::take(alloc, files, slots, message)),
+        Head::Message(message) => told(accepting::take(alloc, files, slots, known, message)),
         Head::Push(asked) => opened(take_push(alloc, files, slots, reader, taken, asked)),
         Head::Pack(_) => {
             skip_pack(alloc, reader, taken)?;

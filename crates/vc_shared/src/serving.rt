@@ -7,6 +7,8 @@ ghost use Rattle.vc_fetch.specs.Advert.{HasShortNames};
 ghost use Rattle.vc_fetch.specs.AdvertView.{advert_text};
 ghost use Rattle.vc_fetch.specs.WantView.{want_text};
 ghost use Rattle.vc_files.specs.Failures.{Wears};
+ghost use Rattle.vc_known.specs.Known.{Agrees};
+ghost use Rattle.vc_object_map.specs.Store.{objects};
 ghost use Rattle.vc_shared.specs.Faults.{TellsDevice};
 ghost use Rattle.vc_shared.specs.Serving.{IsAnswered, IsListed, IsRefusedList, ListAnswers, RefusesList, RefusesWant, TellsRefs, WantAnswers};
 
@@ -14,6 +16,7 @@ use crate::SharedFault;
 use std::alloc::{AllocError, Global};
 use vc_fetch::{Advert, Want};
 use vc_files::{Fault, Files};
+use vc_known::Known;
 use vc_object::ObjectId;
 use vc_pack::{AnswerFault, answer_want};
 use vc_refname::RefName;
@@ -64,18 +67,24 @@ pub(crate) fn list<F: Files>(alloc: Global, files: &mut F) -> Result<Vec<u8>, Sh
 }
 
 /// The answer to a want: the message that brings what the wants reach and no have that counts does. See
-/// [`answer_want`](vc_pack::answer_want).
+/// [`answer_want`](vc_pack::answer_want), which says what is kept for the next want.
 pub(crate) fn answer<F: Files>(
     alloc: Global,
     files: &mut F,
+    known: &mut Known,
     want: &Want,
 ) -> Result<Vec<u8>, SharedFault>
+    requires agrees { F.honest → Agrees (objects (F.content files.old)) known.old }
+    ensures known { F.honest → Agrees (objects (F.content files.old)) known.new }
     ensures answered { F.honest → IfOk result (λ bytes. IsAnswered (F.content files.old) (want_text want.now) bytes.items) }
     ensures refused { F.honest → IfErr result (RefusesWant (F.content files.old) (want_text want.now)) }
     ensures same { F.content files.new ≡ F.content files.old }
     ensures wear { Wears F.failed F.can_fail F.left files.old files.new (TellsDevice result) }
 {
-    let pack = answer_want(alloc, files, want)?;
+    // Who is asked once keeps nothing.
+    let learns = known.moments() > 0;
+    let pack = answer_want(alloc, files, known, learns, want)?;
+    known.begin(alloc)?;
     let bytes = pack.write(alloc)?;
     Ok(bytes)
 }

@@ -37,13 +37,15 @@ use std::marker::Model;
 use vc_expression::Expr;
 use vc_files::{Files, FusedFiles};
 use vc_history::Generations;
+use vc_known::Known;
 use vc_local::{NodeFault, open_files};
 use vc_message::{Source, skip_message};
 use vc_object::ObjectId;
 use vc_session::PushSession;
 
 /// The shared node over files: one bare repository, the pushes that are open in its eight slots, and what it has learnt of the
-/// generations of commits, some 30 bytes for each. Once a call has ended in a fault, or has met a file of the node's own that is gone or
+/// generations of commits, some 30 bytes for each. Of what its refs reach it keeps the names from the second want on, some 50 bytes for
+/// each, so that the next answers read what is new alone. Once a call has ended in a fault, or has met a file of the node's own that is gone or
 /// damaged (11, 12, 33), each later one but [`close`](Shared::close) is refused (112), until the files are opened again.
 #[derive(Drop)]
 pub struct Shared<F: Files> {
@@ -56,23 +58,27 @@ pub struct Shared<F: Files> {
     generations: Generations,
     // The commits whose histories are learnt before the next check.
     due: Vec<ObjectId>,
+    // What the refs reached at answers to wants. No call but a prune takes an object away, and that one forgets it.
+    known: Known,
 }
 
 impl<F: Files> Model for Shared<F> {
     ghost use Rattle.std.specs.Coded.{codes};
     ghost use Rattle.vc_history.specs.Stored.{AgreesIn};
-    ghost use Rattle.vc_history.specs.contracts.generations.Generations as known;
+    ghost use Rattle.vc_history.specs.contracts.generations.Generations as of_generations;
+    ghost use Rattle.vc_known.specs.Known.{Agrees};
+    ghost use Rattle.vc_object_map.specs.Store.{objects};
     ghost use Rattle.vc_quarantine.specs.Learning.{learnt_in};
     ghost use Rattle.vc_shared.specs.Holding.{SharedText};
     ghost use Rattle.vc_shared.specs.Slots.{AreTellable};
 
     ghost Value = { SharedText F };
 
-    ghost coded = { Prim.hlevel (codes, known.the_row.coded) };
+    ghost coded = { Prim.hlevel (codes, of_generations.the_row.coded) };
 
     ghost view = { λ s. record { files = s.files; slots = s.slots; is_up = s.is_up; learnt = learnt_in s.generations s.due } };
 
-    ghost invariant = { λ s. AreTellable s.slots × (F.honest → AgreesIn (F.content s.files) s.generations) };
+    ghost invariant = { λ s. AreTellable s.slots × (F.honest → AgreesIn (F.content s.files) s.generations × Agrees (objects (F.content s.files)) s.known) };
 }
 
 impl<F: Files> Shared<F> {
@@ -98,6 +104,7 @@ impl<F: Files> Shared<F> {
                 is_up: true,
                 generations: Generations::new(alloc),
                 due: Vec::new(alloc),
+                known: Known::new(alloc),
             }),
             Err(fault) => Err((files, fault)),
         }
@@ -114,6 +121,7 @@ impl<F: Files> Shared<F> {
             is_up: _,
             generations: _,
             due: _,
+            known: _,
         } = self;
         files
     }
@@ -139,6 +147,7 @@ impl<F: Files> Shared<F> {
         self.is_up = false;
         self.generations = Generations::new(self.alloc);
         self.due = Vec::new(self.alloc);
+        self.known = Known::new(self.alloc);
         match open_files(self.alloc, &mut self.files) {
             Ok(_) => {
                 self.is_up = true;
@@ -262,7 +271,13 @@ impl<F: Files> Shared<F> {
         if !self.is_up {
             return Err(SharedFault::Node(NodeFault::Down));
         }
-        let accepted = accepting::accept(self.alloc, &mut self.files, &mut self.slots, bytes);
+        let accepted = accepting::accept(
+            self.alloc,
+            &mut self.files,
+            &mut self.slots,
+            &mut self.known,
+            bytes,
+        );
         self.settle(accepted)
     }
 
@@ -292,7 +307,13 @@ impl<F: Files> Shared<F> {
         if !self.is_up {
             return refuse_down(skip_message(self.alloc, reader));
         }
-        let accepted = arriving::take_next(self.alloc, &mut self.files, &mut self.slots, reader);
+        let accepted = arriving::take_next(
+            self.alloc,
+            &mut self.files,
+            &mut self.slots,
+            &mut self.known,
+            reader,
+        );
         self.settle_next(accepted)
     }
 

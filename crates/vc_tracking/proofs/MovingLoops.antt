@@ -16,7 +16,8 @@ use Rattle.vc_refs.proofs.LayeredLemmas.{packed_map-same}
 use Rattle.vc_quarantine.specs.Known.{AreWhole}
 use Rattle.vc_quarantine.specs.declared.known.Known.{Known}
 use Rattle.vc_push_rules.proofs.FrameLemmas.{objects-same}
-use Rattle.vc_quarantine.proofs.NumberLemmas.{agreement_beside}
+use Rattle.vc_history.proofs.StoredLemmas.{numbers_kept}
+use Rattle.vc_quarantine.proofs.KeepingLemmas.{keeps_beside}
 use Rattle.vc_quarantine.specs.Clean.{MakesNoneBad}
 use Rattle.vc_object_map.specs.Store.{object_path, objects}
 use Rattle.vc_object_map.specs.declared.faults.StoreFault.TheVariants as of_store
@@ -67,7 +68,7 @@ whole_after old new known outside whole = subst (λ (o : ObjectMap). AreWhole o 
 
 -- so do numbers that agree
 pub agrees_after : (old new : FileMap) (generations : Generations) → SameOutside (codes "refs/") old new → AgreesIn old generations → AgreesIn new generations
-agrees_after old new generations outside agrees = agreement_beside old new (λ id. objects-same old new id (outside.at (object_path id.0) refl)) generations agrees
+agrees_after old new generations outside agrees = numbers_kept old new (keeps_beside old new (λ id. objects-same old new id (outside.at (object_path id.0) refl))) generations agrees
 
 -- what is blamed of files that none of it made bad is blamed of them as they were
 pub blames_before : (old new : FileMap) → MakesNoneBad old new → (e : ExchangeFault) → BlamesFiles new e → BlamesFiles old e

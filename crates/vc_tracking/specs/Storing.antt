@@ -6,7 +6,7 @@ use Rattle.vc_files.specs.FileMap.{FileMap}
 use Rattle.vc_object_map.specs.Overlay.{with_carried}
 use Rattle.vc_object.specs.Decoding.{StoredObject}
 use Rattle.vc_object.specs.declared.id.ObjectId.{ObjectId}
-use Rattle.vc_pack.specs.Reached.{KeepsObjects}
+use Rattle.vc_history.specs.Stored.{KeepsObjects}
 use Rattle.vc_push_rules.specs.Carrying.{objects_in}
 use Rattle.vc_quarantine.specs.Clean.{MakesNoneBad}
 use Rattle.vc_object_map.specs.Store.{objects}

@@ -15,8 +15,8 @@ ghost use Rattle.vc_rules.specs.Git.{git};
 use super::CloneNode;
 use vc_files::Files;
 use vc_history::Generations;
+use vc_known::Known;
 use vc_local::NodeFault;
-use vc_pack::Reached;
 
 impl<F: Files> CloneNode<F> {
     /// Takes away each object that neither a ref, nor a detached HEAD, nor a file of the index reaches, and returns how many went. 33 and
@@ -39,7 +39,7 @@ impl<F: Files> CloneNode<F> {
             return Err(NodeFault::Down);
         }
         self.index = None;
-        self.reached = Reached::new(self.alloc);
+        self.known = Known::new(self.alloc);
         self.generations = Generations::new(self.alloc);
         self.due = Vec::new(self.alloc);
         match vc_pruning::prune(self.alloc, &mut self.files) {

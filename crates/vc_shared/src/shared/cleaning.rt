@@ -14,12 +14,13 @@ use super::Shared;
 use crate::pruning;
 use vc_files::Files;
 use vc_history::Generations;
+use vc_known::Known;
 use vc_local::NodeFault;
 
 impl<F: Files> Shared<F> {
     /// Takes away each stored object that nothing needs, and returns how many these were. Needed is what a ref, a detached HEAD or a file
     /// of the index reaches through what is stored, and what the new id of an open push's command reaches through that and what the push
-    /// carries, unless the command was refused. What was learnt of generations is forgotten first. Each open push stays, and so does each
+    /// carries, unless the command was refused. What was learnt of generations, and of what refs reach, is forgotten first. Each open push stays, and so does each
     /// other file, wherever it stops.
     ///
     /// 33 and 34 for a bad file of the refs or of HEAD, 62 for a bad index: then no file has changed. 12 for a damaged object: then, as after
@@ -38,6 +39,7 @@ impl<F: Files> Shared<F> {
         }
         self.generations = Generations::new(self.alloc);
         self.due = Vec::new(self.alloc);
+        self.known = Known::new(self.alloc);
         match pruning::prune(self.alloc, &mut self.files, &self.slots) {
             Ok(removed) => Ok(removed),
             Err(fault) => {

@@ -1,5 +1,5 @@
 use Rattle.std.proofs.Common.{rules, ◌≡◌, Err, refl, sym, ap, ◌∙◌, subst}
-use Rattle.vc_pack.proofs.KeepsLemmas.{keeps_same, keeps_then}
+use Rattle.vc_history.proofs.StoredLemmas.{keeps_same, keeps_then}
 use Rattle.vc_files.specs.FileMap.{FileMap}
 use Rattle.vc_files.proofs.WearLemmas.{wears_then, wears_writes, writes_both, writes_told}
 use Rattle.vc_object_map.specs.Graph.{IsClosedUnder}

@@ -14,7 +14,7 @@ use Rattle.vc_refs.specs.Refs.{refs}
 use Rattle.vc_rules.specs.Git.{git}
 use Rattle.vc_rules.specs.OpenPushes.{HoldsContent}
 use Rattle.vc_quarantine.proofs.CleanLemmas.{bad_same}
-use Rattle.vc_quarantine.proofs.NumberLemmas.{agreement_same}
+use Rattle.vc_history.proofs.StoredLemmas.{numbers_same}
 use Rattle.vc_quarantine.proofs.WearLemmas.{wears_both}
 use Rattle.vc_quarantine.specs.Known.{AreWhole}
 use Rattle.vc_quarantine.specs.declared.known.Known.{Known}
@@ -85,7 +85,7 @@ returns-in_err-moved-clause-refused g c = λ honest agrees.
     let seen = g.F.Files.content c.open_ids.new.files in
     let same : seen ≡ old = c.in_ok-open.ensures.same ∙ c.in_ok-known.ensures.same in
     let e = c.in_err-moved.field-0.0 in
-    let why : BlamesFiles seen e = search (rules, c.in_err-moved.ensures.refused honest (agreement_same old seen same c.learn_known.new.generations (c.in_ok-known.ensures.agrees honest agrees))) in
+    let why : BlamesFiles seen e = search (rules, c.in_err-moved.ensures.refused honest (numbers_same old seen same c.learn_known.new.generations (c.in_ok-known.ensures.agrees honest agrees))) in
     told_err c.from_residual-in_err-moved.result e (BlamesAdvert old) (search rules) (inr (subst (λ (f : FileMap). BlamesFiles f e) same why))
 
 pub returns-in_err-moved-clause-wear : goal.returns-in_err-moved-clause-wear

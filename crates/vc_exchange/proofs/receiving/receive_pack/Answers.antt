@@ -1,5 +1,5 @@
 use Rattle.std.proofs.Common.{rules, ◌≡◌, Result, Err, refl, sym, ap, ◌∙◌, subst}
-use Rattle.vc_pack.proofs.KeepsLemmas.{keeps_same, keeps_then}
+use Rattle.vc_history.proofs.StoredLemmas.{keeps_same, keeps_then}
 use Rattle.vc_pack.specs.AnswerFault.{IsRefusedPack}
 use Rattle.vc_pack.specs.declared.fault.AnswerFault.{AnswerFault}
 use Rattle.vc_pack.specs.declared.fault.AnswerFault.TheVariants as answer

@@ -13,7 +13,7 @@ use Rattle.vc_message.specs.Machine.{machine_told}
 use Rattle.vc_model.specs.Clone.{refused_reasons}
 use Rattle.vc_push.specs.ReportView.{report_text, told_of}
 use Rattle.vc_push.specs.declared.report.Told.{Told}
-use Rattle.vc_quarantine.proofs.NumberLemmas.{agreement_same}
+use Rattle.vc_history.proofs.StoredLemmas.{numbers_same}
 use Rattle.vc_quarantine.proofs.WearLemmas.{wears_both}
 use Rattle.vc_tracking.specs.declared.fault.ExchangeFault.TheVariants as exchange
 use Rattle.vc_exchange.proofs.JudgingLemmas.{faulted, learnt_moved, right_refs}
@@ -44,7 +44,7 @@ returns-in_err-moved-clause-refused g c = λ honest agrees.
     let seen = g.F.Files.content c.learn_known.new.files in
     let same : seen ≡ old = c.in_ok-known.ensures.same in
     let e = c.in_err-moved.field-0.0 in
-    let why : BlamesFiles seen e = search (rules, c.in_err-moved.ensures.refused honest (agreement_same old seen same c.learn_known.new.generations (c.in_ok-known.ensures.agrees honest agrees))) in
+    let why : BlamesFiles seen e = search (rules, c.in_err-moved.ensures.refused honest (numbers_same old seen same c.learn_known.new.generations (c.in_ok-known.ensures.agrees honest agrees))) in
     told_err c.from_residual-in_err-moved.result e (BlamesFiles old) (search rules) (subst (λ (f : FileMap). BlamesFiles f e) same why)
 
 pub returns-in_err-moved-clause-looks : goal.returns-in_err-moved-clause-looks

@@ -1,10 +1,11 @@
 use Rattle.std.proofs.Common.{◌≡◌, ◌≤◌, [], ◌∷◌, length, ap, ◌∙◌, refl, arith, rules}
 use Rattle.indexmap.specs.IndexSet.{insert_all}
 use Rattle.std.proofs.lemmas.Option.{get_or_from_slice_get, slice_get_within}
-use Rattle.vc_pack.proofs.ReachedLemmas.{IsMetDownTo-walked, ReachedFrom-beyond, Walks-first, closed_beyond, met_beyond}
+use Rattle.vc_pack.proofs.BeyondLemmas.{IsMetDownTo-walked, ReachedFrom-beyond, Walks-first, closed_beyond, met_beyond}
 use Rattle.vc_pack.proofs.ReadingLemmas.{HasRead-exact, HasRead-sorted}
 use Rattle.vc_pack.proofs.SentLemmas.{ReachedFrom-onward, Keeps-start, Keeps-step, Keeps-end}
-use Rattle.vc_pack.specs.Reached.{links_beyond}
+use Rattle.vc_pack.specs.Sent.{links_beyond}
+use Rattle.vc_known.specs.Reach.{has_in}
 use Rattle.vc_graph.proofs.FaultLemmas.{IsTold-more}
 use Rattle.vc_object_map.proofs.WalkLemmas.{Walks-step, Contains-from_slice_get, insert_all-prefix}
 use Rattle.vc_object.proofs.IdLemmas.{id_eq-same}
@@ -17,7 +18,7 @@ use Rattle.vc_pack.proofs.reading.sent_beyond.Goals as goal
 pub loop-next-init : goal.loop-next-init
 loop-next-init g c =
     let content = g.F.Files.content c.args.files.now in
-    let known = c.args.reached.now.names.keys in
+    let known = has_in c.args.reach.now in
     let met = c.add_names.new.set.keys in
     record {
       same = refl;
@@ -31,7 +32,7 @@ loop-next-preserved g c =
     let content = g.F.Files.content c.args.files.now in
     let before = c.loop-next.invariant in
     let call = c.in_ok-ids.ensures in
-    let known = c.args.reached.now.names.keys in
+    let known = has_in c.args.reach.now in
     let seen = c.loop-next.met.keys in
     let now = c.add_names-in-loop-next.new.set.keys in
     let ids = c.in_ok-ids.ids.items in
@@ -44,7 +45,7 @@ loop-next-preserved g c =
       wear = search rules;
       walks = λ honest. Walks-step (links_beyond (links_in (objects content)) known) c.args.wants.now id_eq id_eq-same seen now ids next id (before.walks honest) c.index.ensures (rw before.same at (call.links honest)) added;
       keeps = λ honest. Keeps-step content known seen now prefix.0 next id (slice_get_within seen next id c.index.ensures) (get_or_from_slice_get seen next id id c.index.ensures) (added ∙ prefix.1)
-          (objects_of c.loop-next.sent.by_name.entries) (objects_of c.send_unless_known.new.sent.by_name.entries) (before.keeps honest) (rw before.same at (call.sent honest));
+          (objects_of c.loop-next.sent.by_name.entries) (objects_of c.send_unless_reached.new.sent.by_name.entries) (before.keeps honest) (rw before.same at (call.sent honest));
     }
 
 pub returns-in_err-ids-clause-refused : goal.returns-in_err-ids-clause-refused
@@ -55,16 +56,16 @@ returns-in_err-ids-clause-refused g c honest =
     let id = c.index.result.now in
     let links = links_in (objects content) in
     let refused = rw before.same at (c.in_err-ids.ensures.refused honest) in
-    let at = ReachedFrom-beyond links c.args.reached.now.names.keys roots id ((before.walks honest).reached id (Contains-from_slice_get c.loop-next.met.keys c.loop-next.next id c.index.ensures)) in
+    let at = ReachedFrom-beyond links (has_in c.args.reach.now) roots id ((before.walks honest).reached id (Contains-from_slice_get c.loop-next.met.keys c.loop-next.next id c.index.ensures)) in
     let told = IsTold-more (objects content) (IsDamaged content) (id ∷ []) roots (ReachedFrom-onward links roots id at) c.in_err-ids.field-0.0 refused in
     search (rules, told)
 
 pub returns-clause-sent : goal.returns-clause-sent
-returns-clause-sent g c honest stands id o =
+returns-clause-sent g c honest before_roots is id o =
     let content = g.F.Files.content c.args.files.now in
     let links = links_in (objects content) in
     let before = c.loop-next.invariant in
-    let known = c.args.reached.now.names.keys in
+    let known = has_in c.args.reach.now in
     let met = c.loop-next.met.keys in
     let next = c.loop-next.next in
     let end : length met ≤ next = omega (arith, c.len.ensures.len, c.loop-next-test.false) in
@@ -72,7 +73,7 @@ returns-clause-sent g c honest stands id o =
     let sent = objects_of c.loop-next.sent.by_name.entries in
     let kept = Keeps-end content known met next sent keeps end id in
     let down = IsMetDownTo-walked links known c.args.wants.now met next (before.walks honest) end in
-    let beyond = met_beyond links c.args.reached.now.roots.items known stands c.args.wants.now met down id in
+    let beyond = met_beyond links known before_roots is.exactly is.there c.args.wants.now met down id in
     let read = HasRead-exact content keeps.names sent keeps.read id o in (
       λ h. let one = read.0 h in (beyond.0 (kept.0 one.0), one.1),
       λ h. read.1 (kept.1 (beyond.1 h.0), h.1),
@@ -84,10 +85,10 @@ returns-clause-sorted g c honest =
     HasRead-sorted (g.F.Files.content c.args.files.now) keeps.names (objects_of c.loop-next.sent.by_name.entries) keeps.read
 
 pub returns-clause-closed : goal.returns-clause-closed
-returns-clause-closed g c honest stands =
+returns-clause-closed g c honest before_roots is =
     let links = links_in (objects (g.F.Files.content c.args.files.now)) in
-    let known = c.args.reached.now.names.keys in
+    let known = has_in c.args.reach.now in
     let met = c.loop-next.met.keys in
     let end : length met ≤ c.loop-next.next = omega (arith, c.len.ensures.len, c.loop-next-test.false) in
     let down = IsMetDownTo-walked links known c.args.wants.now met c.loop-next.next (c.loop-next.invariant.walks honest) end in
-    closed_beyond links c.args.reached.now.roots.items known stands c.args.wants.now met down
+    closed_beyond links known before_roots is.exactly is.there c.args.wants.now met down

@@ -8,7 +8,7 @@ use Rattle.vc_shared.proofs.ArrivingLemmas.{changes_none}
 use Rattle.vc_shared.proofs.accepting.accept.Goals as goal
 
 pub take-requires : goal.take-requires
-take-requires g c = record { read = (c.args.bytes.now, c.in_ok-message.ensures.spelled); tellable = c.requires.tellable }
+take-requires g c = record { read = (c.args.bytes.now, c.in_ok-message.ensures.spelled); tellable = c.requires.tellable; agrees = c.requires.agrees }
 
 pub returns-in_err-message-clause-answers : goal.returns-in_err-message-clause-answers
 returns-in_err-message-clause-answers g c = λ honest m reads.

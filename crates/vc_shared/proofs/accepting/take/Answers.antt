@@ -2,6 +2,8 @@ use Rattle.std.proofs.Common.{refl, subst, sym}
 use Rattle.vc_fetch.specs.WantView.{want_text}
 use Rattle.vc_files.proofs.WearLemmas.{wears_writes}
 use Rattle.std.specs.Prelude.{IfErr, IfOk}
+use Rattle.vc_history.proofs.StoredLemmas.{keeps_same}
+use Rattle.vc_known.proofs.StoredLemmas.{known_kept}
 use Rattle.vc_message.specs.AnyMessage.{SpellsMessage, a_list, a_push, a_want}
 use Rattle.vc_message.specs.AnyView.{message_text}
 use Rattle.vc_message.specs.Machine.{TextOf}
@@ -9,12 +11,12 @@ use Rattle.vc_message.specs.Read.{WasRead}
 use Rattle.vc_message.specs.declared.message.Message.{Message}
 use Rattle.vc_pkt.specs.Message.{IsSpelledBy}
 use Rattle.vc_push.specs.PushView.{push_text}
-use Rattle.vc_shared.proofs.AcceptingLemmas.{advert_declined, error_declined, list_told, pack_declined, push_told, reply_answered, reply_wears, report_declined, slot_answered, slot_refused, want_told}
+use Rattle.vc_shared.proofs.AcceptingLemmas.{advert_declined, error_declined, list_told, pack_declined, push_told, reply_answered, reply_refused, reply_wears, report_declined, slot_answered, slot_refused, want_told}
 use Rattle.vc_shared.proofs.ArrivingLemmas.{changes_none, changes_same}
 use Rattle.vc_shared.proofs.PushingTexts.{reads_tellable}
 use Rattle.vc_shared.specs.Accepting.{IsAnsweredMessage, IsRefusedMessage}
 use Rattle.vc_shared.specs.Pushing.{IsRefusedPush, OpensSlot}
-use Rattle.vc_shared.specs.Serving.{IsAnswered, IsListed}
+use Rattle.vc_shared.specs.Serving.{IsAnswered, IsListed, RefusesWant}
 use Rattle.vc_shared.proofs.accepting.take.Goals as goal
 
 pub returns-in-List-clause-answers : goal.returns-in-List-clause-answers
@@ -27,6 +29,11 @@ returns-in-List-clause-wear g c = wears_writes (reply_wears c.list.result c.repl
 pub returns-in-Want-clause-answers : goal.returns-in-Want-clause-answers
 returns-in-Want-clause-answers g c = λ honest m is.
     want_told m (g.F.Files.content c.args.files.now) (g.F.Files.content c.answer.new.files) c.args.slots.now c.args.slots.now c.replied-in-Want.result (want_text c.in-Want.want) c.answer.result c.replied-in-Want.ensures (subst (λ (x : Message). WasRead (message_text x)) c.in-Want.is c.requires.read) (subst (λ (x : Message). TextOf m (message_text x)) c.in-Want.is is) (c.answer.ensures.answered honest) (c.answer.ensures.refused honest) c.answer.ensures.same refl
+
+pub returns-in-Want-clause-refused : goal.returns-in-Want-clause-refused
+returns-in-Want-clause-refused g c = λ honest.
+    subst (λ (x : Message). IfErr c.replied-in-Want.result (IsRefusedMessage (g.F.Files.content c.args.files.now) c.args.slots.now (message_text x))) (sym c.in-Want.is)
+    (reply_refused (RefusesWant (g.F.Files.content c.args.files.now) (want_text c.in-Want.want)) c.answer.result c.replied-in-Want.result c.replied-in-Want.ensures (c.answer.ensures.refused honest))
 
 pub returns-in-Want-clause-wear : goal.returns-in-Want-clause-wear
 returns-in-Want-clause-wear g c = wears_writes (reply_wears c.answer.result c.replied-in-Want.result c.replied-in-Want.ensures c.answer.ensures.wear) (λ honest. c.answer.ensures.same)
@@ -98,3 +105,12 @@ returns-in-Push-clause-answered g c = λ honest.
     let after = c.open_push.new.slots in
     subst (λ (x : Message). IfOk c.opened.result (IsAnsweredMessage old new slots after (message_text x))) (sym c.in-Push.is)
     (slot_answered (OpensSlot new slots after (push_text c.in-Push.push)) (IsAnsweredMessage old new slots after (a_push (push_text c.in-Push.push))) c.open_push.result c.opened.result c.opened.ensures (λ k so. so) (c.open_push.ensures.opened honest))
+
+pub returns-in-List-clause-known : goal.returns-in-List-clause-known
+returns-in-List-clause-known g c = λ honest. known_kept _ _ c.args.known.now (keeps_same _ _ c.list.ensures.same) (c.requires.agrees honest)
+
+pub returns-in-Want-clause-known : goal.returns-in-Want-clause-known
+returns-in-Want-clause-known g c = λ honest. known_kept _ _ c.answer.new.known (keeps_same _ _ c.answer.ensures.same) (c.answer.ensures.known honest)
+
+pub returns-in-Push-clause-known : goal.returns-in-Push-clause-known
+returns-in-Push-clause-known g c = λ honest. known_kept _ _ c.args.known.now (c.open_push.ensures.good honest).objects (c.requires.agrees honest)

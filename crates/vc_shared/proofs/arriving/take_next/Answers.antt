@@ -4,6 +4,7 @@ use Rattle.vc_files.proofs.WearLemmas.{writes_none}
 use Rattle.vc_fetch.specs.Pack.{PackText}
 use Rattle.vc_message.specs.AnyView.{message_text}
 use Rattle.vc_message.specs.AnyMessage.{a_pack}
+use Rattle.vc_known.proofs.StoredLemmas.{known_kept}
 use Rattle.vc_push.specs.PushView.{head_text}
 use Rattle.vc_shared.proofs.AcceptingLemmas.{pack_declined}
 use Rattle.vc_shared.proofs.ArrivingLemmas.{changes_none, no_device, stopped_by}
@@ -56,7 +57,7 @@ pub returns-in_default-clause-wear : goal.returns-in_default-clause-wear
 returns-in_default-clause-wear g c = writes_none (λ device. device)
 
 pub take-requires : goal.take-requires
-take-requires g c = record { read = was_read _ _ (message_text c.in-Message.message) (rw c.in-Message.is at (rw c.in-Some.is at c.in_ok-found.ensures.head)); tellable = c.requires.tellable }
+take-requires g c = record { read = was_read _ _ (message_text c.in-Message.message) (rw c.in-Message.is at (rw c.in-Some.is at c.in_ok-found.ensures.head)); tellable = c.requires.tellable; agrees = c.requires.agrees }
 
 pub returns-in-Message-clause-accepts : goal.returns-in-Message-clause-accepts
 returns-in-Message-clause-accepts g c =
@@ -148,3 +149,6 @@ returns-in_ok-skip_pack-in-Pack-clause-good g c = λ honest. good_same _ _ refl
 
 pub returns-in_ok-skip_pack-in-Pack-clause-wear : goal.returns-in_ok-skip_pack-in-Pack-clause-wear
 returns-in_ok-skip_pack-in-Pack-clause-wear g c = writes_none (λ device. device)
+
+pub returns-in-Push-clause-known : goal.returns-in-Push-clause-known
+returns-in-Push-clause-known g c = λ honest. known_kept _ _ c.args.known.now (c.take_push.ensures.good honest).objects (c.requires.agrees honest)

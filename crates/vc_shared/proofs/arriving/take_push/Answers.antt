@@ -5,7 +5,7 @@ use Rattle.vc_files.proofs.WearLemmas.{writes_both, writes_none, writes_told}
 use Rattle.vc_push.specs.Push.{HeadText, with_carried}
 use Rattle.vc_push.specs.PushView.{head_text}
 use Rattle.vc_quarantine.proofs.CleanLemmas.{bad_then}
-use Rattle.vc_quarantine.proofs.NumberLemmas.{agreement_quarantine}
+use Rattle.vc_quarantine.proofs.KeepingLemmas.{keeps_quarantine}
 use Rattle.vc_shared.proofs.ArrivingLemmas.{changes_none, cleared_by, cleared_none, no_device, part_of_stop, refusal_no_device, stopped_by, writes_as}
 use Rattle.vc_shared.proofs.HoldingLemmas.{good_same}
 use Rattle.vc_shared.proofs.PushingLemmas.{changes_free}
@@ -86,7 +86,7 @@ pub returns-in-Ok-clause-outside : goal.returns-in-Ok-clause-outside
 returns-in-Ok-clause-outside g c = λ honest. changes_free _ _ _ _ c.in-Some.ensures (c.in-Ok.ensures.outside honest)
 
 pub returns-in-Ok-clause-good : goal.returns-in-Ok-clause-good
-returns-in-Ok-clause-good g c = λ honest. record { agrees = agreement_quarantine _ _ _ (c.in-Ok.ensures.outside honest); bad = search rules }
+returns-in-Ok-clause-good g c = λ honest. record { objects = keeps_quarantine _ _ _ (c.in-Ok.ensures.outside honest); bad = search rules }
 
 pub returns-then-is_fault-clause-refused : goal.returns-then-is_fault-clause-refused
 returns-then-is_fault-clause-refused g c = record { failures = inl (tells_error c.in-Err.ensures.failures (λ is. is) (λ is. is)); why = λ before so. stopped (c.in-Err.ensures.stopped before so) }
@@ -98,7 +98,7 @@ pub returns-then-is_fault-clause-outside : goal.returns-then-is_fault-clause-out
 returns-then-is_fault-clause-outside g c = λ honest. changes_free _ _ _ _ c.in-Some.ensures (c.in-Err.ensures.outside honest)
 
 pub returns-then-is_fault-clause-good : goal.returns-then-is_fault-clause-good
-returns-then-is_fault-clause-good g c = λ honest. record { agrees = agreement_quarantine _ _ _ (c.in-Err.ensures.outside honest); bad = search rules }
+returns-then-is_fault-clause-good g c = λ honest. record { objects = keeps_quarantine _ _ _ (c.in-Err.ensures.outside honest); bad = search rules }
 
 pub returns-in_err-drop_quarantine-in-Err-clause-refused : goal.returns-in_err-drop_quarantine-in-Err-clause-refused
 returns-in_err-drop_quarantine-in-Err-clause-refused g c =
@@ -117,7 +117,7 @@ pub returns-in_err-drop_quarantine-in-Err-clause-outside : goal.returns-in_err-d
 returns-in_err-drop_quarantine-in-Err-clause-outside g c = λ honest. changes_free _ _ _ _ c.in-Some.ensures (outside_then (c.in-Err.ensures.outside honest) (c.in_err-drop_quarantine-in-Err.ensures.outside honest))
 
 pub returns-in_err-drop_quarantine-in-Err-clause-good : goal.returns-in_err-drop_quarantine-in-Err-clause-good
-returns-in_err-drop_quarantine-in-Err-clause-good g c = λ honest. record { agrees = agreement_quarantine _ _ _ (outside_then (c.in-Err.ensures.outside honest) (c.in_err-drop_quarantine-in-Err.ensures.outside honest)); bad = bad_then (c.in-Err.ensures.bad honest) (c.in_err-drop_quarantine-in-Err.ensures.bad honest) }
+returns-in_err-drop_quarantine-in-Err-clause-good g c = λ honest. record { objects = keeps_quarantine _ _ _ (outside_then (c.in-Err.ensures.outside honest) (c.in_err-drop_quarantine-in-Err.ensures.outside honest)); bad = bad_then (c.in-Err.ensures.bad honest) (c.in_err-drop_quarantine-in-Err.ensures.bad honest) }
 
 pub returns-in_err-drop_quarantine-in-Err-clause-wear : goal.returns-in_err-drop_quarantine-in-Err-clause-wear
 returns-in_err-drop_quarantine-in-Err-clause-wear g c =
@@ -134,7 +134,7 @@ pub returns-in_ok-drop_quarantine-in-Err-clause-outside : goal.returns-in_ok-dro
 returns-in_ok-drop_quarantine-in-Err-clause-outside g c = λ honest. changes_free _ _ _ _ c.in-Some.ensures (outside_then (c.in-Err.ensures.outside honest) (c.in_ok-drop_quarantine-in-Err.ensures.outside honest))
 
 pub returns-in_ok-drop_quarantine-in-Err-clause-good : goal.returns-in_ok-drop_quarantine-in-Err-clause-good
-returns-in_ok-drop_quarantine-in-Err-clause-good g c = λ honest. record { agrees = agreement_quarantine _ _ _ (outside_then (c.in-Err.ensures.outside honest) (c.in_ok-drop_quarantine-in-Err.ensures.outside honest)); bad = bad_then (c.in-Err.ensures.bad honest) (c.in_ok-drop_quarantine-in-Err.ensures.bad honest) }
+returns-in_ok-drop_quarantine-in-Err-clause-good g c = λ honest. record { objects = keeps_quarantine _ _ _ (outside_then (c.in-Err.ensures.outside honest) (c.in_ok-drop_quarantine-in-Err.ensures.outside honest)); bad = bad_then (c.in-Err.ensures.bad honest) (c.in_ok-drop_quarantine-in-Err.ensures.bad honest) }
 
 pub returns-in_ok-drop_quarantine-in-Err-clause-wear : goal.returns-in_ok-drop_quarantine-in-Err-clause-wear
 returns-in_ok-drop_quarantine-in-Err-clause-wear g c =

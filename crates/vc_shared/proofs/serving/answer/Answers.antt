@@ -5,6 +5,10 @@ use Rattle.vc_files.specs.declared.faults.Fault.TheVariants.{Memory}
 use Rattle.vc_shared.proofs.ServingFaults.{refuses}
 use Rattle.vc_shared.proofs.serving.answer.Goals as goal
 
+pub returns-in_err-begin-clause-refused : goal.returns-in_err-begin-clause-refused
+returns-in_err-begin-clause-refused g c honest =
+    refuses (IsRefusedAnswer (g.F.Files.content c.args.files.now) c.args.want.now.wants.items) (Fault Memory) c.from_residual-in_err-begin.result c.from_residual-in_err-begin.ensures.1 tt
+
 pub returns-in_err-bytes-clause-refused : goal.returns-in_err-bytes-clause-refused
 returns-in_err-bytes-clause-refused g c honest =
     refuses (IsRefusedAnswer (g.F.Files.content c.args.files.now) c.args.want.now.wants.items) (Fault Memory) c.from_residual-in_err-bytes.result c.from_residual-in_err-bytes.ensures.1 tt

@@ -1,5 +1,6 @@
 use Rattle.std.proofs.Common.{◌≡◌, ◌<◌, ◌∙◌, ℕ, None, Option, ap, length, refl, rules, subst, sym}
 use Rattle.std.proofs.lemmas.List.{length-set}
+use Rattle.vc_history.proofs.StoredLemmas.{keeps_same}
 use Rattle.vc_quarantine.specs.Learning.{learnt_in}
 use Rattle.vc_shared.proofs.SlotLemmas.{open_within, put_back, same_slot, slot_steps, slot_unchanged, told_after, told_at}
 use Rattle.vc_push_rules.specs.Session.{SessionText}
@@ -39,6 +40,7 @@ returns-clause-unchanged g c =
 pub returns-in_default-clause-good : goal.returns-in_default-clause-good
 returns-in_default-clause-good g c honest = record {
   agrees = c.requires.agrees honest;
+  objects = keeps_same _ _ refl;
   bad = search rules;
   packed = subst (λ (s : Option SessionText). LeavesPackedIn (g.F.Files.content c.args.files.now) (g.F.Files.content c.args.files.now) s) (sym c.in_default.is ∙ c.take.ensures.push) refl;
   learns = λ up. subst (λ (s : Option SessionText). LearnsIn (g.F.Files.content c.args.files.now) s (learnt_in c.args.generations.now c.args.due.now) (learnt_in c.args.generations.now c.args.due.now)) (sym c.in_default.is ∙ c.take.ensures.push) refl;

@@ -2,6 +2,7 @@ use Rattle.std.proofs.Common.{◌∙◌, ⊎_elim, ap, inl, inr, rules, Some, re
 use Rattle.vc_files.proofs.WearLemmas.{wears_then, wears_writes, writes_told}
 use Rattle.vc_files.specs.FileMap.{FileMap}
 use Rattle.vc_files.specs.declared.faults.Fault.TheVariants.{Memory}
+use Rattle.vc_history.proofs.StoredLemmas.{keeps_same, numbers_kept}
 use Rattle.vc_lemmas.proofs.Lists.{on_err}
 use Rattle.vc_local.proofs.LookLemmas.{looks_then}
 use Rattle.vc_refs.specs.Refs.{packed_map}
@@ -72,7 +73,8 @@ returns-in_err-did-clause-refused g c honest =
 
 pub returns-in_err-did-clause-good : goal.returns-in_err-did-clause-good
 returns-in_err-did-clause-good g c honest = record {
-  agrees = (rw c.in_default.ensures.same at c.step.ensures.spares.agrees) honest c.learn.new.generations (c.in_default.ensures.agrees honest (c.requires.agrees honest));
+  agrees = numbers_kept _ _ ((rw c.in_default.ensures.same at c.step.ensures.spares.objects) honest) c.learn.new.generations (c.in_default.ensures.agrees honest (c.requires.agrees honest));
+  objects = (rw c.in_default.ensures.same at c.step.ensures.spares.objects) honest;
   bad = search rules;
   packed = (rw c.in_default.ensures.same at c.step.ensures.spares.packed) honest;
   learns = λ up. c.in_default.ensures.learnt honest (c.requires.agrees honest);
@@ -80,7 +82,8 @@ returns-in_err-did-clause-good g c honest = record {
 
 pub returns-in_err-told-clause-good : goal.returns-in_err-told-clause-good
 returns-in_err-told-clause-good g c honest = record {
-  agrees = (rw c.in_default.ensures.same at c.step.ensures.spares.agrees) honest c.learn.new.generations (c.in_default.ensures.agrees honest (c.requires.agrees honest));
+  agrees = numbers_kept _ _ ((rw c.in_default.ensures.same at c.step.ensures.spares.objects) honest) c.learn.new.generations (c.in_default.ensures.agrees honest (c.requires.agrees honest));
+  objects = (rw c.in_default.ensures.same at c.step.ensures.spares.objects) honest;
   bad = search rules;
   packed = (rw c.in_default.ensures.same at c.step.ensures.spares.packed) honest;
   learns = λ up. c.in_default.ensures.learnt honest (c.requires.agrees honest);
@@ -88,7 +91,8 @@ returns-in_err-told-clause-good g c honest = record {
 
 pub returns-clause-good : goal.returns-clause-good
 returns-clause-good g c honest = record {
-  agrees = (rw c.in_default.ensures.same at c.step.ensures.spares.agrees) honest c.learn.new.generations (c.in_default.ensures.agrees honest (c.requires.agrees honest));
+  agrees = numbers_kept _ _ ((rw c.in_default.ensures.same at c.step.ensures.spares.objects) honest) c.learn.new.generations (c.in_default.ensures.agrees honest (c.requires.agrees honest));
+  objects = (rw c.in_default.ensures.same at c.step.ensures.spares.objects) honest;
   bad = search rules;
   packed = (rw c.in_default.ensures.same at c.step.ensures.spares.packed) honest;
   learns = λ up. c.in_default.ensures.learnt honest (c.requires.agrees honest);
@@ -97,6 +101,7 @@ returns-clause-good g c honest = record {
 pub returns-in-Err-clause-good : goal.returns-in-Err-clause-good
 returns-in-Err-clause-good g c honest = record {
   agrees = search rules;
+  objects = keeps_same _ _ c.in-Err.ensures.same;
   bad = search rules;
   packed = inl (ap packed_map c.in-Err.ensures.same);
   learns = λ up. absurd (true≢false (sym up ∙ rw c.from.ensures refl));

@@ -11,7 +11,7 @@ use Rattle.vc_node.proofs.HeldAnswers.{answered}
 use Rattle.vc_local.proofs.AnswerLemmas.{answers_down, answers_from, failed}
 use Rattle.vc_local.proofs.IndexLemmas.{add_done, add_failed, spells_index}
 use Rattle.vc_local.proofs.CleanLemmas.{clean_same}
-use Rattle.vc_pack.proofs.KeepsLemmas.{keeps_map, keeps_put}
+use Rattle.vc_history.proofs.StoredLemmas.{keeps_map, keeps_put}
 use Rattle.vc_node.proofs.KeepingLemmas.{both_kept}
 use Rattle.vc_node.proofs.node.CloneNode.add.Goals as goal
 
@@ -42,7 +42,7 @@ pub returns-in-Err-clause-looks : goal.returns-in-Err-clause-looks
 returns-in-Err-clause-looks g c = λ honest. rw (← c.self.view_is) (may_or (Stage c.args.path.now (mode_number c.args.mode) c.args.bytes.now) _ _ (search rules) (λ awaited r p. or_failed (c.in-Err.ensures.looks honest p.map (spells_index _ r p)) (λ may. add_may _ awaited r p c.args.path.now c.args.bytes.now c.args.mode may) c.fail.ensures.files c.fail.ensures.fault))
 
 pub invariant_of-self : goal.invariant_of-self
-invariant_of-self g c = λ honest. (both_kept _ _ c.self.inside.reached c.self.inside.generations (⊎_elim (keeps_map _ _) (keeps_put _ _ _ _) (c.in-Ok.ensures.stores honest).objects) (c.self.invariant honest).0, tt)
+invariant_of-self g c = λ honest. (both_kept _ _ c.self.inside.known c.self.inside.generations (⊎_elim (keeps_map _ _) (keeps_put _ _ _ _) (c.in-Ok.ensures.stores honest).objects) (c.self.invariant honest).0, tt)
 
 pub invariant_of-self-in-Err : goal.invariant_of-self-in-Err
-invariant_of-self-in-Err g c = λ honest. (both_kept _ _ c.self.inside.reached c.self.inside.generations (⊎_elim (keeps_map _ _) (keeps_put _ _ _ _) (c.in-Err.ensures.stores honest).objects) (c.self.invariant honest).0, tt)
+invariant_of-self-in-Err g c = λ honest. (both_kept _ _ c.self.inside.known c.self.inside.generations (⊎_elim (keeps_map _ _) (keeps_put _ _ _ _) (c.in-Err.ensures.stores honest).objects) (c.self.invariant honest).0, tt)

@@ -61,7 +61,7 @@ pub returns-in-Err-clause-looks : goal.returns-in-Err-clause-looks
 returns-in-Err-clause-looks g c = λ honest. rw (← c.self.view_is) (may_if_sound (MakeCommit (map bytes_of_id c.args.extra_parents.now) c.args.author.now c.args.committer.now c.args.message.now) _ _ (search rules) (λ awaited r p. or_failed (c.in-Err.ensures.looks honest) (λ may. commit_may _ awaited r p c.args.extra_parents.now c.args.author.now c.args.committer.now c.args.message.now may) c.fail.ensures.files c.fail.ensures.fault))
 
 pub invariant_of-self : goal.invariant_of-self
-invariant_of-self g c = λ honest. (both_kept _ _ c.self.inside.reached c.self.inside.generations (keeps_committed _ _ _ _ _ _ c.in-Ok.id (c.in-Ok.ensures.committed honest)) (c.self.invariant honest).0, rw c.take-kept.ensures.after tt)
+invariant_of-self g c = λ honest. (both_kept _ _ c.self.inside.known c.self.inside.generations (keeps_committed _ _ _ _ _ _ c.in-Ok.id (c.in-Ok.ensures.committed honest)) (c.self.invariant honest).0, rw c.take-kept.ensures.after tt)
 
 pub invariant_of-self-in-Err : goal.invariant_of-self-in-Err
-invariant_of-self-in-Err g c = λ honest. (both_kept _ _ c.self.inside.reached c.self.inside.generations (keeps_left (g.F.Files.content c.self.inside.files) (g.F.Files.content c.commit.new.files) c.args.extra_parents.now c.args.author.now c.args.committer.now c.args.message.now (c.in-Err.ensures.left honest).left) (c.self.invariant honest).0, rw c.take-kept.ensures.after tt)
+invariant_of-self-in-Err g c = λ honest. (both_kept _ _ c.self.inside.known c.self.inside.generations (keeps_left (g.F.Files.content c.self.inside.files) (g.F.Files.content c.commit.new.files) c.args.extra_parents.now c.args.author.now c.args.committer.now c.args.message.now (c.in-Err.ensures.left honest).left) (c.self.invariant honest).0, rw c.take-kept.ensures.after tt)

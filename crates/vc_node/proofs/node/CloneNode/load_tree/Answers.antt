@@ -6,7 +6,7 @@ use Rattle.vc_node.proofs.HeldAnswers.{answered}
 use Rattle.vc_local.proofs.AnswerLemmas.{answers_down, answers_from, failed, or_unchanged}
 use Rattle.vc_local.proofs.TreeLemmas.{load_done, load_failed}
 use Rattle.vc_local.proofs.CleanLemmas.{clean_same}
-use Rattle.vc_pack.proofs.KeepsLemmas.{keeps_same}
+use Rattle.vc_history.proofs.StoredLemmas.{keeps_same}
 use Rattle.vc_node.proofs.KeepingLemmas.{both_kept, keeps_shown}
 use Rattle.vc_node.proofs.node.CloneNode.load_tree.Goals as goal
 
@@ -38,7 +38,7 @@ pub returns-in-Err-clause-looks : goal.returns-in-Err-clause-looks
 returns-in-Err-clause-looks g c = λ honest. rw (← c.self.view_is) (may_or (LoadTree c.args.id.now.0) _ _ (search rules) (λ awaited r p. or_failed (c.in-Err.ensures.looks honest) (λ may. load_may _ awaited r p c.args.id.now may) c.fail.ensures.files c.fail.ensures.fault))
 
 pub invariant_of-self : goal.invariant_of-self
-invariant_of-self g c = λ honest. (both_kept _ _ c.self.inside.reached c.self.inside.generations (keeps_shown _ _ _ (c.in-Ok.ensures.loaded honest).is refl) (c.self.invariant honest).0, tt)
+invariant_of-self g c = λ honest. (both_kept _ _ c.self.inside.known c.self.inside.generations (keeps_shown _ _ _ (c.in-Ok.ensures.loaded honest).is refl) (c.self.invariant honest).0, tt)
 
 pub invariant_of-self-in-Err : goal.invariant_of-self-in-Err
-invariant_of-self-in-Err g c = λ honest. (both_kept _ _ c.self.inside.reached c.self.inside.generations (keeps_same _ _ (c.in-Err.ensures.kept honest).err) (c.self.invariant honest).0, tt)
+invariant_of-self-in-Err g c = λ honest. (both_kept _ _ c.self.inside.known c.self.inside.generations (keeps_same _ _ (c.in-Err.ensures.kept honest).err) (c.self.invariant honest).0, tt)

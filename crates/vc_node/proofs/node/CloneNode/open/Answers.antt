@@ -1,7 +1,6 @@
 use Rattle.std.proofs.Common.{rules}
 use Rattle.vc_history.proofs.GenerationLemmas.{agrees_where_none}
 use Rattle.vc_history.specs.Numbering.{numbers}
-use Rattle.vc_pack.proofs.ReachedLemmas.{Stands-none}
 use Rattle.vc_local.proofs.EmptyingLemmas.{opened_holds}
 use Rattle.vc_local.proofs.OpeningFaults.{only_faults}
 use Rattle.vc_node.proofs.node.CloneNode.open.Goals as goal
@@ -13,7 +12,7 @@ pub returns-in-Err-clause-only : goal.returns-in-Err-clause-only
 returns-in-Err-clause-only g c = λ honest r can. only_faults _ r can _ (c.in-Err.ensures.refused honest)
 
 pub invariant_of-result : goal.invariant_of-result
-invariant_of-result g c = λ honest. ((Stands-none _ c.new.result.roots.items c.new.result.names.keys c.new.ensures.roots c.new.ensures.names, agrees_where_none _ (numbers c.new-in-Ok.result) c.new-in-Ok.ensures.none), c.in-Ok.ensures.spelled honest)
+invariant_of-result g c = λ honest. ((c.new.ensures.agrees _, agrees_where_none _ (numbers c.new-in-Ok.result) c.new-in-Ok.ensures.none), c.in-Ok.ensures.spelled honest)
 
 pub returns-in-Ok-clause-fresh : goal.returns-in-Ok-clause-fresh
 returns-in-Ok-clause-fresh g c = record { up = search rules; awaits = search rules; learnt = record { none = c.new-in-Ok.ensures.none; due = search rules } }

@@ -22,10 +22,10 @@ returns-in-Err-clause-answers g c = λ honest.
     (packing_answers (content c.self.inside.files) (content c.pack_refs.new.files) _ (c.in-Err.ensures.kept honest).same (c.in-Err.ensures.kept honest).clean (Err c.in-Err.fault) tt (c.in-Err.ensures.refused honest))
 
 pub invariant_of-self : goal.invariant_of-self
-invariant_of-self g c = λ honest. (both_kept _ _ c.self.inside.reached c.self.inside.generations (keeps_shown _ _ _ (c.in-Ok.ensures.kept honest).same refl) (c.self.invariant honest).0, tt)
+invariant_of-self g c = λ honest. (both_kept _ _ c.self.inside.known c.self.inside.generations (keeps_shown _ _ _ (c.in-Ok.ensures.kept honest).same refl) (c.self.invariant honest).0, tt)
 
 pub invariant_of-self-in-Err : goal.invariant_of-self-in-Err
-invariant_of-self-in-Err g c = λ honest. (both_kept _ _ c.self.inside.reached c.self.inside.generations (keeps_shown _ _ _ (c.in-Err.ensures.kept honest).same refl) (c.self.invariant honest).0, tt)
+invariant_of-self-in-Err g c = λ honest. (both_kept _ _ c.self.inside.known c.self.inside.generations (keeps_shown _ _ _ (c.in-Err.ensures.kept honest).same refl) (c.self.invariant honest).0, tt)
 
 pub returns-then-not-self-clause-looks : goal.returns-then-not-self-clause-looks
 returns-then-not-self-clause-looks g c = λ honest awaited n waiting held. inr (looks_none (λ told. told))

@@ -7,7 +7,6 @@ use Rattle.vc_local.proofs.LookLemmas.{looks_none}
 use Rattle.vc_local.specs.NodeFault.{takes_down}
 use Rattle.vc_model.specs.Clone.{IsReached}
 use Rattle.vc_model.specs.CloneCall.CloneCall.{Prune}
-use Rattle.vc_pack.proofs.ReachedLemmas.{Stands-none}
 use Rattle.vc_pruning.proofs.PruningLemmas.{clean_of, prunes_none}
 use Rattle.vc_rules.specs.Git.{git}
 use Rattle.vc_node.proofs.CloneCallLemmas.{down_clone}
@@ -113,7 +112,7 @@ returns-in-Err-clause-looks g c = λ honest. pruning_may _ _ _ (search rules)
 
 -- ---- what is kept of the last push, and of generations, is nothing
 pub invariant_of-self : goal.invariant_of-self
-invariant_of-self g c = λ honest. ((Stands-none _ c.new.result.roots.items c.new.result.names.keys c.new.ensures.roots c.new.ensures.names, agrees_where_none _ (numbers c.new-2.result) c.new-2.ensures.none), tt)
+invariant_of-self g c = λ honest. ((c.new.ensures.agrees _, agrees_where_none _ (numbers c.new-2.result) c.new-2.ensures.none), tt)
 
 pub invariant_of-self-in-Err : goal.invariant_of-self-in-Err
-invariant_of-self-in-Err g c = λ honest. ((Stands-none _ c.new.result.roots.items c.new.result.names.keys c.new.ensures.roots c.new.ensures.names, agrees_where_none _ (numbers c.new-2.result) c.new-2.ensures.none), tt)
+invariant_of-self-in-Err g c = λ honest. ((c.new.ensures.agrees _, agrees_where_none _ (numbers c.new-2.result) c.new-2.ensures.none), tt)

@@ -1,13 +1,14 @@
 use Rattle.std.proofs.Common.{◌≡◌, ◌∙◌, false, refl, rules, sym, true≢false}
 use Rattle.vc_lemmas.proofs.Lists.{on_err}
-use Rattle.vc_pack.proofs.KeepsLemmas.{StandsIn-kept, keeps_same}
+use Rattle.vc_known.proofs.StoredLemmas.{known_kept}
+use Rattle.vc_history.proofs.StoredLemmas.{keeps_same}
 use Rattle.vc_files.proofs.WearLemmas.{writes_none}
 use Rattle.vc_quarantine.specs.Learning.{learnt_in}
 use Rattle.vc_local.proofs.CleanLemmas.{clean_same}
 use Rattle.vc_exchange.proofs.QuarantinedLemmas.{others_same}
 use Rattle.vc_exchange.specs.Quarantined.{KeepsOthers}
 use Rattle.vc_node.proofs.SettledLemmas.{kept_through}
-use Rattle.vc_pack.specs.Reached.{KeepsObjects}
+use Rattle.vc_history.specs.Stored.{KeepsObjects}
 use Rattle.vc_node.proofs.ComingLemmas.{down_keeps, down_no_device, down_receives, known_receives, next_awaits, next_clean, next_cleared, next_learns, next_lost, next_none, next_receives, next_wear}
 use Rattle.vc_node.specs.Awaited.{awaited_text}
 use Rattle.vc_node.proofs.LossLemmas.{loss_of_down, loss_of_same}
@@ -108,7 +109,7 @@ returns-clause-wear g c =
 pub invariant_of-self : goal.invariant_of-self
 invariant_of-self g c = λ honest.
     let both = (c.self.invariant honest).0 in
-    ((StandsIn-kept _ _ c.self.inside.reached (c.take_next-received.ensures.good honest).objects both.0, (c.take_next-received.ensures.leaves.learnt honest).agrees), tt)
+    ((known_kept _ _ c.self.inside.known (c.take_next-received.ensures.good honest).objects both.0, (c.take_next-received.ensures.leaves.learnt honest).agrees), tt)
 
 pub take_next-received-requires : goal.take_next-received-requires
 take_next-received-requires g c = record { agrees = λ honest. (c.self.invariant honest).0.1 }

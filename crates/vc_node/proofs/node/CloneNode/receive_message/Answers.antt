@@ -3,15 +3,15 @@ use Rattle.vc_message.specs.AnyView.{message_text}
 use Rattle.vc_model.specs.CloneCall.CloneCall.{Receive}
 use Rattle.vc_local.proofs.CleanLemmas.{clean_same}
 use Rattle.vc_node.proofs.ReceivingClone.{nothing_beside}
-use Rattle.vc_pack.proofs.KeepsLemmas.{keeps_same}
-use Rattle.vc_pack.specs.Reached.{KeepsObjects}
+use Rattle.vc_history.proofs.StoredLemmas.{keeps_same}
+use Rattle.vc_history.specs.Stored.{KeepsObjects}
 use Rattle.vc_tracking.specs.Storing.{KeepsBeside}
 use Rattle.vc_node.proofs.CloneCallLemmas.{down_clone}
 use Rattle.vc_local.proofs.LookLemmas.{looks_none}
 use Rattle.vc_node.proofs.SettledLemmas.{kept_through, settled_answers, settled_awaits, settled_clean, settled_err, settled_learns, settled_looks, settled_refusal, settled_wear}
 use Rattle.vc_node.specs.Awaited.{awaited_text}
 use Rattle.vc_node.specs.Receipts.{IsRefusedMessage}
-use Rattle.vc_pack.proofs.KeepsLemmas.{StandsIn-kept}
+use Rattle.vc_known.proofs.StoredLemmas.{known_kept}
 use Rattle.vc_quarantine.specs.Learning.{learnt_in}
 use Rattle.vc_node.proofs.node.CloneNode.receive_message.Goals as goal
 
@@ -89,7 +89,7 @@ returns-clause-looks g c = λ honest.
 pub invariant_of-self : goal.invariant_of-self
 invariant_of-self g c = λ honest.
     let both = (c.self.invariant honest).0 in
-    ((StandsIn-kept _ _ c.self.inside.reached (c.take-received.ensures.good honest).objects both.0, (c.take-received.ensures.leaves.learnt honest).agrees), tt)
+    ((known_kept _ _ c.self.inside.known (c.take-received.ensures.good honest).objects both.0, (c.take-received.ensures.leaves.learnt honest).agrees), tt)
 
 pub take-received-requires : goal.take-received-requires
 take-received-requires g c = record { agrees = λ honest. (c.self.invariant honest).0.1 }

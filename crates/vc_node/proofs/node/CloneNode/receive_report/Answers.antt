@@ -3,8 +3,8 @@ use Rattle.vc_message.specs.AnyMessage.{a_report}
 use Rattle.vc_model.specs.CloneCall.CloneCall.{Receive}
 use Rattle.vc_local.proofs.CleanLemmas.{clean_same}
 use Rattle.vc_node.proofs.ReceivingClone.{nothing_beside}
-use Rattle.vc_pack.proofs.KeepsLemmas.{keeps_same}
-use Rattle.vc_pack.specs.Reached.{KeepsObjects}
+use Rattle.vc_history.proofs.StoredLemmas.{keeps_same}
+use Rattle.vc_history.specs.Stored.{KeepsObjects}
 use Rattle.vc_tracking.specs.Storing.{KeepsBeside}
 use Rattle.vc_node.proofs.CloneCallLemmas.{down_clone}
 use Rattle.vc_local.proofs.LookLemmas.{looks_none}
@@ -12,7 +12,7 @@ use Rattle.vc_node.proofs.SettledLemmas.{kept_through, settled_answers, settled_
 use Rattle.vc_node.specs.Awaited.{awaited_text}
 use Rattle.vc_node.specs.Receipts.{IsRefusedMessage}
 use Rattle.vc_push.specs.ReportView.{report_text}
-use Rattle.vc_pack.proofs.KeepsLemmas.{StandsIn-kept}
+use Rattle.vc_known.proofs.StoredLemmas.{known_kept}
 use Rattle.vc_quarantine.specs.Learning.{learnt_in}
 use Rattle.vc_node.proofs.node.CloneNode.receive_report.Goals as goal
 
@@ -90,7 +90,7 @@ returns-clause-looks g c = λ honest.
 pub invariant_of-self : goal.invariant_of-self
 invariant_of-self g c = λ honest.
     let both = (c.self.invariant honest).0 in
-    ((StandsIn-kept _ _ c.self.inside.reached (c.take_report-received.ensures.good honest).objects both.0, (c.take_report-received.ensures.leaves.learnt honest).agrees), tt)
+    ((known_kept _ _ c.self.inside.known (c.take_report-received.ensures.good honest).objects both.0, (c.take_report-received.ensures.leaves.learnt honest).agrees), tt)
 
 pub take_report-received-requires : goal.take_report-received-requires
 take_report-received-requires g c = record { agrees = λ honest. (c.self.invariant honest).0.1 }

@@ -1,7 +1,6 @@
 use Rattle.std.proofs.Common.{Ok, Err, refl, rules}
 use Rattle.vc_history.proofs.GenerationLemmas.{agrees_where_none}
 use Rattle.vc_history.specs.Numbering.{numbers}
-use Rattle.vc_pack.proofs.ReachedLemmas.{Stands-none}
 use Rattle.vc_local.proofs.EmptyingLemmas.{opened_empty}
 use Rattle.vc_node.proofs.RestartLemmas.{restart_answers}
 use Rattle.vc_node.proofs.node.CloneNode.restart.Goals as goal
@@ -16,10 +15,10 @@ pub returns-in-Ok-clause-empty : goal.returns-in-Ok-clause-empty
 returns-in-Ok-clause-empty g c = λ honest. opened_empty _ _ (c.in-Ok.ensures.opened honest)
 
 pub invariant_of-self : goal.invariant_of-self
-invariant_of-self g c = λ honest. ((Stands-none _ c.new.result.roots.items c.new.result.names.keys c.new.ensures.roots c.new.ensures.names, agrees_where_none _ (numbers c.new-2.result) c.new-2.ensures.none), c.in-Ok.ensures.spelled honest)
+invariant_of-self g c = λ honest. ((c.new.ensures.agrees _, agrees_where_none _ (numbers c.new-2.result) c.new-2.ensures.none), c.in-Ok.ensures.spelled honest)
 
 pub invariant_of-self-in-Err : goal.invariant_of-self-in-Err
-invariant_of-self-in-Err g c = λ honest. ((Stands-none _ c.new.result.roots.items c.new.result.names.keys c.new.ensures.roots c.new.ensures.names, agrees_where_none _ (numbers c.new-2.result) c.new-2.ensures.none), tt)
+invariant_of-self-in-Err g c = λ honest. ((c.new.ensures.agrees _, agrees_where_none _ (numbers c.new-2.result) c.new-2.ensures.none), tt)
 
 pub returns-in-Ok-clause-fresh : goal.returns-in-Ok-clause-fresh
 returns-in-Ok-clause-fresh g c = (search rules, record { none = c.new-2.ensures.none; due = search rules })

@@ -27,7 +27,7 @@ returns-in-Err-clause-answers g c = λ honest zero.
     (c.fail_exchange.ensures.up c.if-not-self.false ∙ ap (λ (x : CloneFault). not (takes_down x)) (sym c.fail_exchange.ensures.fault)))
 
 pub invariant_of-self : goal.invariant_of-self
-invariant_of-self g c = λ honest. (rw c.push_message.ensures.same (c.push_message.ensures.stands honest (c.self.invariant honest).0.0, (c.self.invariant honest).0.1), tt)
+invariant_of-self g c = λ honest. (rw c.push_message.ensures.same (c.push_message.ensures.agrees honest (c.self.invariant honest).0.0, (c.self.invariant honest).0.1), tt)
 
 pub invariant_of-self-in-Err : goal.invariant_of-self-in-Err
-invariant_of-self-in-Err g c = λ honest. (rw c.push_message.ensures.same (c.push_message.ensures.stands honest (c.self.invariant honest).0.0, (c.self.invariant honest).0.1), tt)
+invariant_of-self-in-Err g c = λ honest. (rw c.push_message.ensures.same (c.push_message.ensures.agrees honest (c.self.invariant honest).0.0, (c.self.invariant honest).0.1), tt)

@@ -7,7 +7,7 @@ use Rattle.vc_local.proofs.BranchLemmas.{set_branch_done, set_branch_failed}
 use Rattle.vc_local.proofs.CleanLemmas.{clean_same}
 use Rattle.vc_node.proofs.HeldAnswers.{answered_if_sound}
 use Rattle.vc_local.proofs.SoundAnswers.{answers_too, may_if_sound, or_same, sound_failed, sound_from}
-use Rattle.vc_pack.proofs.KeepsLemmas.{keeps_same}
+use Rattle.vc_history.proofs.StoredLemmas.{keeps_same}
 use Rattle.vc_node.proofs.KeepingLemmas.{both_kept, keeps_shown}
 use Rattle.vc_node.proofs.node.CloneNode.set_branch.Goals as goal
 
@@ -33,7 +33,7 @@ pub returns-in-Err-clause-looks : goal.returns-in-Err-clause-looks
 returns-in-Err-clause-looks g c = λ honest. rw (← c.self.view_is) (may_if_sound (SetBranch c.args.branch.now c.args.id.now.0) _ _ (search rules) (λ awaited r p. or_failed (c.in-Err.ensures.looks honest) (λ may. set_branch_may _ awaited r p c.args.branch.now c.args.id.now (search rules) may) c.fail.ensures.files c.fail.ensures.fault))
 
 pub invariant_of-self : goal.invariant_of-self
-invariant_of-self g c = λ honest. (both_kept _ _ c.self.inside.reached c.self.inside.generations (keeps_shown _ _ _ (c.in-Ok.ensures.set honest) refl) (c.self.invariant honest).0, tt)
+invariant_of-self g c = λ honest. (both_kept _ _ c.self.inside.known c.self.inside.generations (keeps_shown _ _ _ (c.in-Ok.ensures.set honest) refl) (c.self.invariant honest).0, tt)
 
 pub invariant_of-self-in-Err : goal.invariant_of-self-in-Err
-invariant_of-self-in-Err g c = λ honest. (both_kept _ _ c.self.inside.reached c.self.inside.generations (keeps_same _ _ (c.in-Err.ensures.kept honest).err) (c.self.invariant honest).0, tt)
+invariant_of-self-in-Err g c = λ honest. (both_kept _ _ c.self.inside.known c.self.inside.generations (keeps_same _ _ (c.in-Err.ensures.kept honest).err) (c.self.invariant honest).0, tt)

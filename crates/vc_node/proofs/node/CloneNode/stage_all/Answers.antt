@@ -1,5 +1,5 @@
 use Rattle.std.proofs.Common.{refl, rules, ap, ◌∙◌, inr}
-use Rattle.vc_pack.proofs.KeepsLemmas.{keeps_map}
+use Rattle.vc_history.proofs.StoredLemmas.{keeps_map}
 use Rattle.vc_node.proofs.KeepingLemmas.{both_kept}
 use Rattle.vc_local.proofs.CleanLemmas.{clean_same}
 use Rattle.vc_local.proofs.IndexLemmas.{spells_index}
@@ -43,7 +43,7 @@ returns-in-Err-clause-kept g c = λ honest.
     rw (← c.self.view_is, ap content c.fail.ensures.files) (record { err = (c.in-Err.ensures.kept honest).err; clean = (c.in-Err.ensures.kept honest).clean; objects = keeps_map _ _ (c.in-Err.ensures.objects honest) })
 
 pub invariant_of-self : goal.invariant_of-self
-invariant_of-self g c = λ honest. (both_kept _ _ c.self.inside.reached c.self.inside.generations (keeps_map _ _ (c.in-Ok.ensures.objects honest)) (c.self.invariant honest).0, tt)
+invariant_of-self g c = λ honest. (both_kept _ _ c.self.inside.known c.self.inside.generations (keeps_map _ _ (c.in-Ok.ensures.objects honest)) (c.self.invariant honest).0, tt)
 
 pub invariant_of-self-in-Err : goal.invariant_of-self-in-Err
-invariant_of-self-in-Err g c = λ honest. (both_kept _ _ c.self.inside.reached c.self.inside.generations (keeps_map _ _ (c.in-Err.ensures.objects honest)) (c.self.invariant honest).0, tt)
+invariant_of-self-in-Err g c = λ honest. (both_kept _ _ c.self.inside.known c.self.inside.generations (keeps_map _ _ (c.in-Err.ensures.objects honest)) (c.self.invariant honest).0, tt)

@@ -6,7 +6,7 @@ use Rattle.vc_node.proofs.HeldAnswers.{answered}
 use Rattle.vc_local.proofs.AnswerLemmas.{answers_down, answers_from, failed, or_unchanged}
 use Rattle.vc_local.proofs.IndexLemmas.{unstage_done, unstage_failed}
 use Rattle.vc_local.proofs.CleanLemmas.{clean_same}
-use Rattle.vc_pack.proofs.KeepsLemmas.{keeps_map, keeps_same}
+use Rattle.vc_history.proofs.StoredLemmas.{keeps_map, keeps_same}
 use Rattle.vc_node.proofs.KeepingLemmas.{both_kept}
 use Rattle.vc_node.proofs.node.CloneNode.unstage.Goals as goal
 
@@ -32,7 +32,7 @@ pub returns-in-Err-clause-looks : goal.returns-in-Err-clause-looks
 returns-in-Err-clause-looks g c = λ honest. rw (← c.self.view_is) (may_or (Unstage c.args.path.now) _ _ (search rules) (λ awaited r p. inl (unstage_may c.args.path.now awaited r)))
 
 pub invariant_of-self : goal.invariant_of-self
-invariant_of-self g c = λ honest. (both_kept _ _ c.self.inside.reached c.self.inside.generations (keeps_map _ _ (c.in-Ok.ensures.objects honest)) (c.self.invariant honest).0, tt)
+invariant_of-self g c = λ honest. (both_kept _ _ c.self.inside.known c.self.inside.generations (keeps_map _ _ (c.in-Ok.ensures.objects honest)) (c.self.invariant honest).0, tt)
 
 pub invariant_of-self-in-Err : goal.invariant_of-self-in-Err
-invariant_of-self-in-Err g c = λ honest. (both_kept _ _ c.self.inside.reached c.self.inside.generations (keeps_same _ _ (c.in-Err.ensures.kept honest).err) (c.self.invariant honest).0, tt)
+invariant_of-self-in-Err g c = λ honest. (both_kept _ _ c.self.inside.known c.self.inside.generations (keeps_same _ _ (c.in-Err.ensures.kept honest).err) (c.self.invariant honest).0, tt)

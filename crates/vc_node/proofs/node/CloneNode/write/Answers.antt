@@ -8,7 +8,7 @@ use Rattle.vc_node.proofs.HeldAnswers.{answered}
 use Rattle.vc_local.proofs.AnswerLemmas.{answers_down, answers_from, failed, or_unchanged}
 use Rattle.vc_local.proofs.WriteLemmas.{write_done, write_failed}
 use Rattle.vc_local.proofs.CleanLemmas.{clean_same}
-use Rattle.vc_pack.proofs.KeepsLemmas.{keeps_put, keeps_same}
+use Rattle.vc_history.proofs.StoredLemmas.{keeps_put, keeps_same}
 use Rattle.vc_node.proofs.KeepingLemmas.{both_kept}
 use Rattle.vc_node.proofs.node.CloneNode.write.Goals as goal
 
@@ -34,7 +34,7 @@ pub returns-in-Err-clause-looks : goal.returns-in-Err-clause-looks
 returns-in-Err-clause-looks g c = λ honest. rw (← c.self.view_is) (may_or (Write (machine_object c.args.kind c.args.body.now)) _ _ (search rules) (λ awaited r p. or_failed (c.in-Err.ensures.looks) (λ may. write_may c.args.kind c.args.body.now may awaited r) c.fail.ensures.files c.fail.ensures.fault))
 
 pub invariant_of-self : goal.invariant_of-self
-invariant_of-self g c = λ honest. (both_kept _ _ c.self.inside.reached c.self.inside.generations (keeps_put _ _ c.in-Ok.id _ (ap (λ (x : Shown). x.objects) (c.in-Ok.ensures.stored honest))) (c.self.invariant honest).0, tt)
+invariant_of-self g c = λ honest. (both_kept _ _ c.self.inside.known c.self.inside.generations (keeps_put _ _ c.in-Ok.id _ (ap (λ (x : Shown). x.objects) (c.in-Ok.ensures.stored honest))) (c.self.invariant honest).0, tt)
 
 pub invariant_of-self-in-Err : goal.invariant_of-self-in-Err
-invariant_of-self-in-Err g c = λ honest. (both_kept _ _ c.self.inside.reached c.self.inside.generations (keeps_same _ _ (c.in-Err.ensures.kept honest).err) (c.self.invariant honest).0, tt)
+invariant_of-self-in-Err g c = λ honest. (both_kept _ _ c.self.inside.known c.self.inside.generations (keeps_same _ _ (c.in-Err.ensures.kept honest).err) (c.self.invariant honest).0, tt)

@@ -12,7 +12,7 @@ use Rattle.vc_refs.specs.Refs.{packed_map}
 use Rattle.vc_session.specs.SessionFault.{IsRefusedCheck, IsRefusedStep}
 use Rattle.vc_session.specs.contracts.session.PushSession.{the_view}
 use Rattle.vc_push_rules.specs.declared.stage.Stage.TheVariants.{Checked, Unpacked}
-use Rattle.vc_quarantine.proofs.NumberLemmas.{agreement_same}
+use Rattle.vc_history.proofs.StoredLemmas.{keeps_same}
 use Rattle.vc_quarantine.proofs.CleanLemmas.{bad_same}
 use Rattle.vc_session.proofs.session.PushSession.check.Goals as goal
 
@@ -27,7 +27,7 @@ returns-in_err-each-clause-refused g c = λ honest agrees.
 pub returns-in_err-each-clause-spares : goal.returns-in_err-each-clause-spares
 returns-in_err-each-clause-spares g c =
     record {
-      agrees = λ honest. agreement_same _ _ c.in_err-each.ensures.same;
+      objects = λ honest. keeps_same _ _ c.in_err-each.ensures.same;
       bad = λ honest. bad_same _ _ c.in_err-each.ensures.same;
       packed = λ honest. inl (ap packed_map c.in_err-each.ensures.same);
     }
@@ -35,7 +35,7 @@ returns-in_err-each-clause-spares g c =
 pub returns-in_err-verdicts-clause-spares : goal.returns-in_err-verdicts-clause-spares
 returns-in_err-verdicts-clause-spares g c =
     record {
-      agrees = λ honest. agreement_same _ _ c.in_ok-each.ensures.same;
+      objects = λ honest. keeps_same _ _ c.in_ok-each.ensures.same;
       bad = λ honest. bad_same _ _ c.in_ok-each.ensures.same;
       packed = λ honest. inl (ap packed_map c.in_ok-each.ensures.same);
     }
@@ -43,7 +43,7 @@ returns-in_err-verdicts-clause-spares g c =
 pub returns-clause-spares : goal.returns-clause-spares
 returns-clause-spares g c =
     record {
-      agrees = λ honest. agreement_same _ _ c.in_ok-each.ensures.same;
+      objects = λ honest. keeps_same _ _ c.in_ok-each.ensures.same;
       bad = λ honest. bad_same _ _ c.in_ok-each.ensures.same;
       packed = λ honest. inl (ap packed_map c.in_ok-each.ensures.same);
     }

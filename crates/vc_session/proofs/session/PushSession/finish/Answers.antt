@@ -12,7 +12,8 @@ use Rattle.vc_session.specs.contracts.session.PushSession.{the_view}
 use Rattle.vc_push_rules.specs.declared.stage.Stage.{Stage}
 use Rattle.vc_push_rules.specs.declared.stage.Stage.TheVariants.{Done}
 use Rattle.vc_push_rules.specs.declared.stage.Verdict.{Verdict}
-use Rattle.vc_quarantine.proofs.NumberLemmas.{agreement_quarantine, agreement_same}
+use Rattle.vc_history.proofs.StoredLemmas.{keeps_same}
+use Rattle.vc_quarantine.proofs.KeepingLemmas.{keeps_quarantine}
 use Rattle.vc_quarantine.proofs.CleanLemmas.{bad_same}
 use Rattle.vc_session.proofs.session.PushSession.finish.Goals as goal
 
@@ -41,7 +42,7 @@ returns-clause-steps g c = λ honest.
 pub returns-in_err-report-clause-spares : goal.returns-in_err-report-clause-spares
 returns-in_err-report-clause-spares g c =
     record {
-      agrees = λ honest. agreement_same _ _ refl;
+      objects = λ honest. keeps_same _ _ refl;
       bad = λ honest. bad_same _ _ refl;
       packed = λ honest. inl refl;
     }
@@ -49,7 +50,7 @@ returns-in_err-report-clause-spares g c =
 pub returns-in_err-drop_quarantine-clause-spares : goal.returns-in_err-drop_quarantine-clause-spares
 returns-in_err-drop_quarantine-clause-spares g c =
     record {
-      agrees = λ honest. agreement_quarantine c.self.inside.slot _ _ (c.in_err-drop_quarantine.ensures.outside honest);
+      objects = λ honest. keeps_quarantine c.self.inside.slot _ _ (c.in_err-drop_quarantine.ensures.outside honest);
       bad = c.in_err-drop_quarantine.ensures.bad;
       packed = λ honest. inl (packed_map-same _ _ ((c.in_err-drop_quarantine.ensures.outside honest).at packed_path refl));
     }
@@ -57,7 +58,7 @@ returns-in_err-drop_quarantine-clause-spares g c =
 pub returns-clause-spares : goal.returns-clause-spares
 returns-clause-spares g c =
     record {
-      agrees = λ honest. agreement_quarantine c.self.inside.slot _ _ (c.in_ok-drop_quarantine.ensures.outside honest);
+      objects = λ honest. keeps_quarantine c.self.inside.slot _ _ (c.in_ok-drop_quarantine.ensures.outside honest);
       bad = c.in_ok-drop_quarantine.ensures.bad;
       packed = λ honest. inl (packed_map-same _ _ ((c.in_ok-drop_quarantine.ensures.outside honest).at packed_path refl));
     }

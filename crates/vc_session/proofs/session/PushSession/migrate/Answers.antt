@@ -13,7 +13,7 @@ use Rattle.vc_push_rules.specs.Steps.{EndsEarly}
 use Rattle.vc_push_rules.specs.declared.stage.Stage.TheVariants.{Checked, Migrated}
 use Rattle.vc_quarantine.proofs.MigratingLemmas.{front-some, migrated-all}
 use Rattle.vc_session.proofs.SessionLemmas.{refused_migration}
-use Rattle.vc_quarantine.proofs.NumberLemmas.{agreement_front, agreement_migrated}
+use Rattle.vc_quarantine.proofs.KeepingLemmas.{keeps_front, keeps_migrated}
 use Rattle.vc_session.proofs.session.PushSession.migrate.Goals as goal
 
 pub returns-clause-steps : goal.returns-clause-steps
@@ -58,7 +58,7 @@ returns-in_err-migrate-clause-refused g c = λ honest.
 pub returns-in_err-migrate-clause-spares : goal.returns-in_err-migrate-clause-spares
 returns-in_err-migrate-clause-spares g c =
     record {
-      agrees = λ honest. agreement_front _ _ c.self.inside.slot c.deref.result.now (c.in_err-migrate.ensures.left honest);
+      objects = λ honest. keeps_front _ _ c.self.inside.slot c.deref.result.now (c.in_err-migrate.ensures.left honest);
       bad = c.in_err-migrate.ensures.bad;
       packed = λ honest. inl (packed_map-same _ _ ((c.in_err-migrate.ensures.outside honest).at packed_path refl));
     }
@@ -66,7 +66,7 @@ returns-in_err-migrate-clause-spares g c =
 pub returns-clause-spares : goal.returns-clause-spares
 returns-clause-spares g c =
     record {
-      agrees = λ honest. agreement_migrated _ _ c.self.inside.slot c.deref.result.now (c.in_ok-migrate.ensures.stored honest);
+      objects = λ honest. keeps_migrated _ _ c.self.inside.slot c.deref.result.now (c.in_ok-migrate.ensures.stored honest);
       bad = c.in_ok-migrate.ensures.bad;
       packed = λ honest. inl (packed_map-same _ _ ((c.in_ok-migrate.ensures.outside honest).at packed_path refl));
     }

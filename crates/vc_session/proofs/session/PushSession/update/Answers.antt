@@ -19,7 +19,8 @@ use Rattle.vc_push_rules.specs.declared.stage.Verdict.TheVariants.{Passing}
 use Rattle.vc_session.proofs.SessionLemmas.{command_there, early_update, either, in_stage, may_after, may_at, may_set_next, same_there, updates_next}
 use Rattle.vc_push_rules.proofs.VerdictLemmas.{settled_verdict}
 use Rattle.vc_quarantine.proofs.WearLemmas.{wears_told}
-use Rattle.vc_quarantine.proofs.NumberLemmas.{agreement_rest, agreement_same}
+use Rattle.vc_history.proofs.StoredLemmas.{keeps_same}
+use Rattle.vc_quarantine.proofs.KeepingLemmas.{keeps_rest}
 use Rattle.vc_quarantine.proofs.CleanLemmas.{bad_same}
 use Rattle.vc_session.proofs.session.PushSession.update.Goals as goal
 use Rattle.vc_session.proofs.session.PushSession.update.Goals.{in-None, in-Some-found}
@@ -131,7 +132,7 @@ returns-clause-takes g c =
 pub returns-in_err-name-clause-spares : goal.returns-in_err-name-clause-spares
 returns-in_err-name-clause-spares g c =
     record {
-      agrees = λ honest. agreement_same _ _ refl;
+      objects = λ honest. keeps_same _ _ refl;
       bad = λ honest. bad_same _ _ refl;
       packed = λ honest. inl refl;
     }
@@ -139,7 +140,7 @@ returns-in_err-name-clause-spares g c =
 pub returns-in_err-found-clause-spares : goal.returns-in_err-found-clause-spares
 returns-in_err-found-clause-spares g c =
     record {
-      agrees = λ honest. agreement_rest _ _ _ (c.in_err-found.ensures.updates.rest honest);
+      objects = λ honest. keeps_rest _ _ _ (c.in_err-found.ensures.updates.rest honest);
       bad = c.in_err-found.ensures.updates.bad;
       packed = λ honest. inl (c.in_err-found.ensures.updates.packed honest);
     }
@@ -147,7 +148,7 @@ returns-in_err-found-clause-spares g c =
 pub returns-clause-spares : goal.returns-clause-spares
 returns-clause-spares g c =
     record {
-      agrees = λ honest. agreement_rest _ _ _ (c.in_ok-found.ensures.updates.rest honest);
+      objects = λ honest. keeps_rest _ _ _ (c.in_ok-found.ensures.updates.rest honest);
       bad = c.in_ok-found.ensures.updates.bad;
       packed = λ honest. inl (c.in_ok-found.ensures.updates.packed honest);
     }

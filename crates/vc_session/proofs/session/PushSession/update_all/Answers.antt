@@ -12,7 +12,8 @@ use Rattle.vc_push_rules.specs.Steps.{names_of, KeepsUnnamed, StepRefusesAll, St
 use Rattle.vc_push_rules.specs.Turn.{with_new, PassInTurn}
 use Rattle.vc_push_rules.specs.declared.stage.Stage.TheVariants.{Done, Migrated}
 use Rattle.vc_quarantine.proofs.CleanLemmas.{bad_outside, bad_same}
-use Rattle.vc_quarantine.proofs.NumberLemmas.{agreement_outside, agreement_same}
+use Rattle.vc_history.proofs.StoredLemmas.{keeps_same}
+use Rattle.vc_quarantine.proofs.KeepingLemmas.{keeps_outside}
 use Rattle.vc_quarantine.proofs.WearLemmas.{wears_told}
 use Rattle.vc_refs.specs.Head.{KeepsOutside}
 use Rattle.vc_refs.specs.Refs.{packed_map, refs, SpellsRefs}
@@ -53,7 +54,7 @@ returns-in_err-made-clause-refused g c = λ honest.
 pub returns-in_err-made-clause-spares : goal.returns-in_err-made-clause-spares
 returns-in_err-made-clause-spares g c =
     record {
-      agrees = λ honest. agreement_same _ _ c.in_err-made.ensures.same;
+      objects = λ honest. keeps_same _ _ c.in_err-made.ensures.same;
       bad = λ honest. bad_same _ _ c.in_err-made.ensures.same;
       packed = λ honest. inl (ap packed_map c.in_err-made.ensures.same);
     }
@@ -101,7 +102,7 @@ returns-in-Some-clause-takes g c =
 pub returns-in-Some-clause-spares : goal.returns-in-Some-clause-spares
 returns-in-Some-clause-spares g c =
     record {
-      agrees = λ honest. agreement_same _ _ c.in_ok-made.ensures.same;
+      objects = λ honest. keeps_same _ _ c.in_ok-made.ensures.same;
       bad = λ honest. bad_same _ _ c.in_ok-made.ensures.same;
       packed = λ honest. inl (ap packed_map c.in_ok-made.ensures.same);
     }
@@ -150,7 +151,7 @@ returns-in_err-set_passed-clause-spares g c =
     let rest : g.F.Files.honest → KeepsOutside (content c.args.files.now) new = λ honest.
     (subst (λ (m : FileMap). KeepsUnnamed (names_of (commands_of c.deref-2.result.now)) m new) same (c.in_err-set_passed.ensures.rest honest)).outside in
     record {
-      agrees = λ honest. agreement_outside _ _ (rest honest);
+      objects = λ honest. keeps_outside _ _ (rest honest);
       bad = λ honest. bad_outside _ _ (rest honest);
       packed = λ honest. inr (c.requires.atomic, rest honest);
     }
@@ -217,7 +218,7 @@ returns-clause-spares g c =
     let rest : g.F.Files.honest → KeepsOutside (content c.args.files.now) new = λ honest.
     (subst (λ (m : FileMap). KeepsUnnamed (names_of (commands_of c.deref-2.result.now)) m new) same (c.in_ok-set_passed.ensures.rest honest)).outside in
     record {
-      agrees = λ honest. agreement_outside _ _ (rest honest);
+      objects = λ honest. keeps_outside _ _ (rest honest);
       bad = λ honest. bad_outside _ _ (rest honest);
       packed = λ honest. inr (c.requires.atomic, rest honest);
     }

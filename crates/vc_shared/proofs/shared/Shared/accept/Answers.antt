@@ -3,6 +3,7 @@ use Rattle.vc_model.specs.Question.Question.{Unread}
 use Rattle.vc_model.specs.SharedCall.SharedCall.{Accept, Asks}
 use Rattle.vc_local.proofs.CleanLemmas.{clean_same}
 use Rattle.vc_local.proofs.LookLemmas.{looks_none}
+use Rattle.vc_history.proofs.StoredLemmas.{numbers_kept}
 use Rattle.vc_shared.proofs.SettledLemmas.{settled_answered, settled_answers, settled_clean, settled_err, settled_looks, settled_refusal, settled_wear}
 use Rattle.vc_shared.proofs.SteppingLaws.{down_answers}
 use Rattle.vc_shared.proofs.ArrivingLemmas.{changes_none}
@@ -78,4 +79,4 @@ returns-clause-looks g c =
     c.settle.ensures.accepted c.settle.ensures.files c.settle.ensures.slots (c.accept-accepted.ensures.looks m reads))
 
 pub invariant_of-self : goal.invariant_of-self
-invariant_of-self g c = (c.accept-accepted.ensures.tellable, λ honest. (c.accept-accepted.ensures.good honest).agrees c.self.inside.generations (c.self.invariant.1 honest))
+invariant_of-self g c = (c.accept-accepted.ensures.tellable, λ honest. (numbers_kept _ _ (c.accept-accepted.ensures.good honest).objects c.self.inside.generations (c.self.invariant.1 honest).0, c.accept-accepted.ensures.known honest))

@@ -1,4 +1,5 @@
 use Rattle.std.proofs.Common.{ap, rules, subst, sym}
+use Rattle.vc_history.proofs.StoredLemmas.{numbers_kept}
 use Rattle.vc_files.proofs.WearLemmas.{writes_none}
 use Rattle.vc_local.proofs.BesideLemmas.{clean_by}
 use Rattle.vc_local.specs.Clean.{KeepsClean}
@@ -66,3 +67,6 @@ returns-clause-clean g c = λ honest.
     let content = g.F.Files.content in
     rw (← c.self.view_is) (kept_through KeepsClean (content c.self.inside.files) (content c.take_next-accepted.new.files) (content c.settle_next.new.self.files) (ap content c.settle_next.ensures.files)
     (clean_by _ _ (c.take_next-accepted.ensures.good honest).bad (packed_free _ _ c.self.inside.slots (c.take_next-accepted.ensures.outside honest))))
+
+pub invariant_of-self : goal.invariant_of-self
+invariant_of-self g c = (c.take_next-accepted.ensures.tellable, λ honest. (numbers_kept _ _ (c.take_next-accepted.ensures.good honest).objects c.self.inside.generations (c.self.invariant.1 honest).0, c.take_next-accepted.ensures.known honest))

@@ -16,7 +16,7 @@ pub returns-clause-only : goal.returns-clause-only
 returns-clause-only g c = λ honest r can. only_faults _ r can _ (c.in-Err.ensures.refused honest)
 
 pub invariant_of-result : goal.invariant_of-result
-invariant_of-result g c = (search rules, λ honest. agrees_where_none _ (numbers c.new.result) c.new.ensures.none)
+invariant_of-result g c = (search rules, λ honest. (agrees_where_none _ (numbers c.new.result) c.new.ensures.none, c.new-in-Ok-2.ensures.agrees _))
 
 pub returns-in-Ok-clause-fresh : goal.returns-in-Ok-clause-fresh
 returns-in-Ok-clause-fresh g c = record { free = search rules; learnt = record { none = c.new.ensures.none; due = search rules } }

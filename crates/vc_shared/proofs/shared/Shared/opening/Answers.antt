@@ -1,5 +1,6 @@
 use Rattle.std.proofs.Common.{◌≡◌, false, rules, sym, true≢false, ◌∙◌}
-use Rattle.vc_quarantine.proofs.NumberLemmas.{agreement_same}
+use Rattle.vc_history.proofs.StoredLemmas.{keeps_same}
+use Rattle.vc_shared.proofs.HoldingLemmas.{both_kept}
 use Rattle.vc_shared.proofs.ShowingLemmas.{only_faults, held_opening}
 use Rattle.vc_shared.specs.Opening.{opening_text}
 use Rattle.vc_shared.proofs.shared.Shared.opening.Goals as goal
@@ -29,7 +30,7 @@ pub returns-in-Err-clause-refused : goal.returns-in-Err-clause-refused
 returns-in-Err-clause-refused g c = λ honest up. rw (← c.self.view_is) (c.in-Err.ensures.refused honest)
 
 pub invariant_of-self : goal.invariant_of-self
-invariant_of-self g c = (c.self.invariant.0, λ honest. agreement_same _ _ c.read_opening.ensures.same c.self.inside.generations (c.self.invariant.1 honest))
+invariant_of-self g c = (c.self.invariant.0, λ honest. both_kept _ _ c.self.inside.generations c.self.inside.known (keeps_same _ _ c.read_opening.ensures.same) (c.self.invariant.1 honest))
 
 pub invariant_of-self-in-Err : goal.invariant_of-self-in-Err
-invariant_of-self-in-Err g c = (c.self.invariant.0, λ honest. agreement_same _ _ c.read_opening.ensures.same c.self.inside.generations (c.self.invariant.1 honest))
+invariant_of-self-in-Err g c = (c.self.invariant.0, λ honest. both_kept _ _ c.self.inside.generations c.self.inside.known (keeps_same _ _ c.read_opening.ensures.same) (c.self.invariant.1 honest))

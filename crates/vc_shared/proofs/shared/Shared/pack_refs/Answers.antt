@@ -6,7 +6,8 @@ use Rattle.vc_local.specs.declared.fault.NodeFault.TheVariants.{Ref}
 use Rattle.vc_local.proofs.CleanLemmas.{packs_only}
 use Rattle.vc_local.proofs.LookLemmas.{looks_none, or_told}
 use Rattle.vc_local.proofs.RefBlames.{packing_unwritten}
-use Rattle.vc_quarantine.proofs.NumberLemmas.{agreement_outside}
+use Rattle.vc_quarantine.proofs.KeepingLemmas.{keeps_outside}
+use Rattle.vc_shared.proofs.HoldingLemmas.{both_kept}
 use Rattle.vc_shared.proofs.PackingLemmas.{packing_answers}
 use Rattle.vc_shared.proofs.ResolvingLemmas.{down_declines}
 use Rattle.vc_shared.proofs.shared.Shared.pack_refs.Goals as goal
@@ -59,7 +60,7 @@ pub returns-in-Err-clause-looks : goal.returns-in-Err-clause-looks
 returns-in-Err-clause-looks g c = λ honest. rw (← c.self.view_is) (or_told (c.in-Err.ensures.looks honest) (λ there. there) (search rules))
 
 pub invariant_of-self : goal.invariant_of-self
-invariant_of-self g c = (c.self.invariant.0, λ honest. agreement_outside _ _ (c.in-Ok.ensures.packs.rest honest) c.self.inside.generations (c.self.invariant.1 honest))
+invariant_of-self g c = (c.self.invariant.0, λ honest. both_kept _ _ c.self.inside.generations c.self.inside.known (keeps_outside _ _ (c.in-Ok.ensures.packs.rest honest)) (c.self.invariant.1 honest))
 
 pub invariant_of-self-in-Err : goal.invariant_of-self-in-Err
-invariant_of-self-in-Err g c = (c.self.invariant.0, λ honest. agreement_outside _ _ (c.in-Err.ensures.packs.rest honest) c.self.inside.generations (c.self.invariant.1 honest))
+invariant_of-self-in-Err g c = (c.self.invariant.0, λ honest. both_kept _ _ c.self.inside.generations c.self.inside.known (keeps_outside _ _ (c.in-Err.ensures.packs.rest honest)) (c.self.invariant.1 honest))

@@ -83,7 +83,7 @@ returns-in-Err-clause-settles g c =
 
 -- ---- numbers of nothing agree with all that is left
 pub invariant_of-self : goal.invariant_of-self
-invariant_of-self g c = (c.self.invariant.0, λ honest. agrees_where_none _ (numbers c.new.result) c.new.ensures.none)
+invariant_of-self g c = (c.self.invariant.0, λ honest. (agrees_where_none _ (numbers c.new.result) c.new.ensures.none, c.new-3.ensures.agrees _))
 
 pub invariant_of-self-in-Err : goal.invariant_of-self-in-Err
-invariant_of-self-in-Err g c = (c.self.invariant.0, λ honest. agrees_where_none _ (numbers c.new.result) c.new.ensures.none)
+invariant_of-self-in-Err g c = (c.self.invariant.0, λ honest. (agrees_where_none _ (numbers c.new.result) c.new.ensures.none, c.new-3.ensures.agrees _))

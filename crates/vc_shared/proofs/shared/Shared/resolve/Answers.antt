@@ -3,7 +3,8 @@ use Rattle.std.specs.Prelude.{not}
 use Rattle.vc_model.specs.Question.Question.{Resolve}
 use Rattle.vc_model.specs.SharedCall.SharedCall.{Asks}
 use Rattle.vc_expression.specs.Views.{expr_view}
-use Rattle.vc_quarantine.proofs.NumberLemmas.{agreement_same}
+use Rattle.vc_history.proofs.StoredLemmas.{keeps_same}
+use Rattle.vc_shared.proofs.HoldingLemmas.{both_kept}
 use Rattle.vc_shared.proofs.FoundLemmas.{no_value_answers, no_value_wears}
 use Rattle.vc_shared.proofs.ResolvingLemmas.{down_declines, values_answer}
 use Rattle.vc_shared.specs.Faults.{takes_down}
@@ -41,7 +42,7 @@ returns-in-Err-clause-bad_file g c = λ honest.
     rw (← c.self.view_is) (inr (c.in-Err.fault, c.fail.ensures.fault ∙ c.from-fault.ensures, c.in-Err.ensures.refused honest))
 
 pub invariant_of-self : goal.invariant_of-self
-invariant_of-self g c = (c.self.invariant.0, λ honest. agreement_same _ _ c.resolve.ensures.same c.self.inside.generations (c.self.invariant.1 honest))
+invariant_of-self g c = (c.self.invariant.0, λ honest. both_kept _ _ c.self.inside.generations c.self.inside.known (keeps_same _ _ c.resolve.ensures.same) (c.self.invariant.1 honest))
 
 pub invariant_of-self-in-Err : goal.invariant_of-self-in-Err
-invariant_of-self-in-Err g c = (c.self.invariant.0, λ honest. agreement_same _ _ c.resolve.ensures.same c.self.inside.generations (c.self.invariant.1 honest))
+invariant_of-self-in-Err g c = (c.self.invariant.0, λ honest. both_kept _ _ c.self.inside.generations c.self.inside.known (keeps_same _ _ c.resolve.ensures.same) (c.self.invariant.1 honest))

@@ -11,10 +11,10 @@ pub returns-clause-answers : goal.returns-clause-answers
 returns-clause-answers g c = λ honest. rw (← c.self.view_is) (restart_answers _ _ _ _ _ _ (Err c.in-Err.fault) tt (c.in-Err.ensures.err honest) (c.in-Err.ensures.refused honest) refl refl)
 
 pub invariant_of-self : goal.invariant_of-self
-invariant_of-self g c = (search rules, λ honest. agrees_where_none _ (numbers c.new.result) c.new.ensures.none)
+invariant_of-self g c = (search rules, λ honest. (agrees_where_none _ (numbers c.new.result) c.new.ensures.none, c.new-3.ensures.agrees _))
 
 pub invariant_of-self-in-Err : goal.invariant_of-self-in-Err
-invariant_of-self-in-Err g c = (search rules, λ honest. agrees_where_none _ (numbers c.new.result) c.new.ensures.none)
+invariant_of-self-in-Err g c = (search rules, λ honest. (agrees_where_none _ (numbers c.new.result) c.new.ensures.none, c.new-3.ensures.agrees _))
 
 pub returns-in-Ok-clause-learnt : goal.returns-in-Ok-clause-learnt
 returns-in-Ok-clause-learnt g c = record { none = c.new.ensures.none; due = search rules }

@@ -3,6 +3,7 @@ use Rattle.vc_model.specs.SharedCall.SharedCall.{StepOf}
 use Rattle.vc_local.proofs.CleanLemmas.{stays_same}
 use Rattle.vc_local.proofs.LookLemmas.{looks_none}
 use Rattle.vc_quarantine.specs.Learning.{Learnt, learnt_in}
+use Rattle.vc_known.proofs.StoredLemmas.{known_kept}
 use Rattle.vc_shared.proofs.CallLemmas.{answers_through, kept_through, looks_through, told_as}
 use Rattle.vc_local.proofs.BesideLemmas.{stays_by}
 use Rattle.vc_local.specs.Clean.{StaysClean}
@@ -81,13 +82,13 @@ pub returns-in-Err-clause-looks : goal.returns-in-Err-clause-looks
 returns-in-Err-clause-looks g c = λ honest. rw (← c.self.view_is) (λ held. looks_through c.in-Err.fault c.fail.result c.fail.ensures.fault c.fail.ensures.files (c.in-Err.ensures.looks honest held))
 
 pub step-requires : goal.step-requires
-step-requires g c = record { tellable = c.self.invariant.0; agrees = c.self.invariant.1 }
+step-requires g c = record { tellable = c.self.invariant.0; agrees = λ honest. (c.self.invariant.1 honest).0 }
 
 pub invariant_of-self : goal.invariant_of-self
-invariant_of-self g c = (c.in-Ok.ensures.tellable, λ honest. (c.in-Ok.ensures.good honest).agrees)
+invariant_of-self g c = (c.in-Ok.ensures.tellable, λ honest. ((c.in-Ok.ensures.good honest).agrees, known_kept _ _ c.self.inside.known (c.in-Ok.ensures.good honest).objects (c.self.invariant.1 honest).1))
 
 pub invariant_of-self-in-Err : goal.invariant_of-self-in-Err
-invariant_of-self-in-Err g c = (c.in-Err.ensures.tellable, λ honest. (c.in-Err.ensures.good honest).agrees)
+invariant_of-self-in-Err g c = (c.in-Err.ensures.tellable, λ honest. ((c.in-Err.ensures.good honest).agrees, known_kept _ _ c.self.inside.known (c.in-Err.ensures.good honest).objects (c.self.invariant.1 honest).1))
 
 pub returns-in-Ok-clause-learns : goal.returns-in-Ok-clause-learns
 returns-in-Ok-clause-learns g c = λ honest. rw (← c.self.view_is) (λ up. (c.in-Ok.ensures.good honest).learns refl)

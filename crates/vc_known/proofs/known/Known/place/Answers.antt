@@ -1,0 +1,34 @@
+use Rattle.std.proofs.Common.{◌≡◌, ◌∙◌, [], ◌∷◌, ◌++◌, ap, subst, refl, length, map, take, arith}
+use Rattle.std.proofs.Math.ListN.{length-map}
+use Rattle.std.proofs.Math.Seq.{take-append_seam}
+use Rattle.std.proofs.lemmas.List.{map-append}
+use Rattle.std.specs.Map.{lookup}
+use Rattle.indexmap.specs.IndexMap.{get}
+use Rattle.vc_object.specs.ObjectId.{id_eq}
+use Rattle.vc_known.specs.Known.{count_in, place_in}
+use Rattle.vc_known.specs.Walked.{Places, kind_met}
+use Rattle.vc_known.proofs.known.Known.place.Goals as goal
+
+pub returns-in-Ok-clause-places : goal.returns-in-Ok-clause-places
+returns-in-Ok-clause-places c =
+    let old = c.args.self.now in
+    let is : c.len-layer.result ≡ count_in old = omega (arith, c.len-layer.ensures, length-map old.moments.items (λ roots. roots.items)) in
+    subst (λ n. Places n c.args.walked.now.met.keys (kind_met c.args.walked.now) (place_in old) (get id_eq c.add_places.new.places)) is c.in-Ok.ensures.places
+
+pub returns-in-Ok-clause-moments : goal.returns-in-Ok-clause-moments
+returns-in-Ok-clause-moments c =
+    let lists = c.args.self.now.moments.items in
+    let roots = c.in_ok-to_vec.field-0 in
+    let pushed = c.in_ok-push.ensures.items in
+    ap (map (λ roots. roots.items)) pushed ∙ map-append (λ roots. roots.items) lists (roots ∷ []) ∙ ap (λ l. map (λ roots. roots.items) lists ++ l ∷ []) (c.in_ok-to_vec.ensures.items_if_clones_equal (λ x y e. e))
+
+pub returns-in-Err-clause-err : goal.returns-in-Err-clause-err
+returns-in-Err-clause-err c =
+    let lists = c.args.self.now.moments.items in
+    let roots = c.in_ok-to_vec.field-0 in
+    let is : c.len-layer.result ≡ length lists = omega (arith, c.len-layer.ensures) in
+    record {
+      moments = ap (map (λ roots. roots.items)) (c.truncate.ensures.items ∙ ap (λ n. take n c.push.new.self.items) is ∙ ap (take (length lists)) c.in_ok-push.ensures.items ∙ take-append_seam lists (roots ∷ []));
+      places = λ id. ap (λ es. lookup (id_eq id) es) c.in-Err.ensures.err;
+      generations = λ id. refl;
+    }
