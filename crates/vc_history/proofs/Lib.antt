@@ -4,6 +4,7 @@ pub mod GenerationLemmas
 pub mod HistoryLemmas
 pub mod LearntLemmas
 pub mod LinkLemmas
+pub mod NearLemmas
 pub mod NumberingLemmas
 pub mod StoredLemmas
 pub mod TowardLemmas

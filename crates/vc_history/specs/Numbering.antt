@@ -1,7 +1,7 @@
 -- What is known of generations, and how the commits that a walk has read get theirs.
 use Rattle.std.specs.Prelude.{◌≡◌, ◌⊎◌, ◌++◌, ◌+◌, ◌≤◌, ◌<◌, ◌^◌, ℕ, false, List, [], Option, Some, None, IsSome, Contains, Vec, length, map, get_or, slice_get, position}
 use Rattle.std.specs.Global.{Global}
-use Rattle.indexmap.specs.IndexMap.{get}
+use Rattle.vc_table.specs.Numbered.{count_in, number_in}
 use Rattle.vc_history.specs.Walk.{parents_read, read_by}
 use Rattle.vc_history.specs.declared.generations.Generations.{Generations}
 use Rattle.vc_history.specs.declared.numbering.Look.{Look}
@@ -11,11 +11,11 @@ use Rattle.vc_object.specs.declared.id.ObjectId.{ObjectId}
 
 -- the number of each name that has one
 abbrev pub numbers : Generations → ObjectId → Option ℕ
-numbers generations id = get id_eq generations.numbers id
+numbers generations id = number_in generations.numbers id
 
 -- how many names have one
 abbrev pub count : Generations → ℕ
-count generations = length generations.numbers.entries
+count generations = count_in generations.numbers
 
 -- each of these parents has a number, and n is one more than the greatest, or 1 where there is none
 pub record IsOver (known : ObjectId → Option ℕ) (parents : List ObjectId) (n : ℕ) : Type 0 where

@@ -1,27 +1,28 @@
 //! Generation numbers: one more than the length of the longest list of parent links from a commit. An ancestor of a commit,
 //! other than the commit itself, has a smaller one.
-ghost use Rattle.std.specs.Prelude.{◌≡◌, ◌∷◌, [], None, IfErr, IsErrOf, OnOk, OnErr};
+ghost use Rattle.std.specs.Prelude.{◌≡◌, ◌∷◌, [], None, IfErr, IsErrOf, IfOk, OnOk, OnErr};
 ghost use Rattle.vc_history.specs.Generation.{Learns};
 ghost use Rattle.vc_history.specs.Numbering.{count, numbers};
 ghost use Rattle.vc_history.specs.Right.{AgreesWith, TellsWhereRight, WhereRight};
 ghost use Rattle.vc_files.specs.Failures.{Wears};
 ghost use Rattle.vc_object_map.specs.Graph.{IsClosed};
 ghost use Rattle.vc_object.specs.declared.id.ObjectId.{ObjectId as Id};
+ghost use Rattle.vc_table.specs.Table.{number_of};
 
 use crate::HistoryFault;
 use crate::numbering::number_history;
 use crate::walk::{Limit, read_history};
-use indexmap::IndexMap;
-use std::alloc::Global;
+use std::alloc::{AllocError, Global};
 use vc_files::Fault;
 use vc_object::ObjectId;
 use vc_object_map::{Commits, StoreFault};
+use vc_table::{Numbered, Table};
 
 /// Generations of commits, where they are known.
 #[derive(Drop)]
 pub struct Generations {
-    // The number of each commit that has one, in the order in which they were learnt.
-    numbers: IndexMap<ObjectId, u64>,
+    // The number of each commit that has one.
+    numbers: Numbered,
 }
 
 impl Generations {
@@ -30,22 +31,43 @@ impl Generations {
         ensures none { (id : Id) → numbers result id ≡ None }
     {
         Generations {
-            numbers: IndexMap::new(alloc),
+            numbers: Numbered::new(alloc),
         }
+    }
+
+    /// Those that a table has.
+    pub fn over(alloc: Global, table: Table) -> Generations
+        ensures numbers { (id : Id) → numbers result id ≡ number_of table id }
+    {
+        Generations {
+            numbers: Numbered::over(alloc, table),
+        }
+    }
+
+    /// All of them in one table.
+    pub fn table(&self, alloc: Global) -> Result<Table, AllocError>
+        ensures numbers { IfOk result (λ table. (id : Id) → number_of table id ≡ numbers self.now id) }
+    {
+        self.numbers.merged(alloc)
+    }
+
+    /// How many were learnt since they were read from a table.
+    pub fn learnt(&self) -> usize {
+        self.numbers.later()
     }
 
     /// The generation of a commit, where it is known: 1 for a commit with no parents.
     pub fn get(&self, id: &ObjectId) -> Option<u64>
         ensures number { result ≡ numbers self.now id.now }
     {
-        self.numbers.get(id).copied()
+        self.numbers.get(id)
     }
 
     /// How many commits have one. None has a greater one.
     pub fn count(&self) -> u64
         ensures count { result ≡ count self.now }
     {
-        self.numbers.len() as u64
+        self.numbers.count() as u64
     }
 
     /// Learns the generation of the root and of each of its ancestors. A commit that is known is not read again, nor is what
@@ -66,11 +88,11 @@ impl Generations {
         ensures kept { C.state_of commits.new ≡ C.state_of commits.old }
         ensures wear { Wears C.failed C.can_fail C.left commits.old commits.new (IsErrOf result (HistoryFault.Store (StoreFault.Fault Fault.Device))) }
     {
-        if self.numbers.contains_key(root) {
+        if self.numbers.has(root) {
             return Ok(());
         }
         let walk = read_history(alloc, commits, &[*root], self)?;
-        let before = self.numbers.len();
+        let before = self.numbers.later();
         match number_history(alloc, &walk, &mut self.numbers) {
             Ok(()) => Ok(()),
             Err(fault) => {
@@ -86,6 +108,6 @@ impl Limit for Generations {
     ghost beyond = { numbers };
 
     fn is_beyond(&self, id: &ObjectId) -> bool {
-        self.numbers.contains_key(id)
+        self.numbers.has(id)
     }
 }

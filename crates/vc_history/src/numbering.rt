@@ -2,16 +2,16 @@
 //! waits for that parent, so each look at a commit is the first or follows a number that it waited for, and what lies on a
 //! cycle, or above one, waits for good.
 ghost use Rattle.std.specs.Prelude.{◌≡◌, ◌++◌, ◌<◌, ◌≤◌, ℕ, None, Some, IsSome, length, slice_get, get_or, IfOk, IfSome, IfNone, OnOk, Contains};
-ghost use Rattle.indexmap.specs.IndexMap.{get};
 ghost use Rattle.vc_history.specs.Numbering.{AreWaiting, IsHeld, IsOver, Keeps, LooksIn, NumbersHistory, WaitsFor, places, queues};
 ghost use Rattle.vc_history.specs.Walk.{read_by};
-ghost use Rattle.vc_object.specs.ObjectId.{id_eq};
 ghost use Rattle.vc_object.specs.declared.id.ObjectId.{ObjectId as Id};
+ghost use Rattle.vc_table.specs.Numbered.{Grows, number_in};
 
 use crate::walk::Walk;
-use indexmap::{IndexMap, IndexSet};
+use indexmap::IndexSet;
 use std::alloc::{AllocError, Global};
 use vc_object::ObjectId;
+use vc_table::Numbered;
 
 // A commit to be looked at, by its place in the walk, and the place among its parents at which to begin: those before it had
 // numbers at the last look.
@@ -25,10 +25,10 @@ struct Look {
 pub(crate) fn number_history(
     alloc: Global,
     walk: &Walk,
-    known: &mut IndexMap<ObjectId, u64>,
+    known: &mut Numbered,
 ) -> Result<(), AllocError>
-    ensures numbered { OnOk result (NumbersHistory walk.now.met.keys (read_by walk.now) (get id_eq known.old) (get id_eq known.new)) }
-    ensures front { (more : _) × (known.new.entries ≡ known.old.entries ++ more) }
+    ensures numbered { OnOk result (NumbersHistory walk.now.met.keys (read_by walk.now) (number_in known.old) (number_in known.new)) }
+    ensures front { Grows known.old known.new }
 {
     let mut waiting = no_lists(alloc, walk.met.len())?;
     let mut looks = first_looks(alloc, walk.met.len())?;
@@ -68,20 +68,20 @@ fn first_looks(alloc: Global, count: usize) -> Result<Vec<Look>, AllocError>
 // Gives a commit its number, and wakes those that wait for it. Where a parent has none, the commit waits for that parent.
 fn look_at(
     walk: &Walk,
-    known: &mut IndexMap<ObjectId, u64>,
+    known: &mut Numbered,
     waiting: &mut Vec<Vec<Look>>,
     looks: &mut Vec<Look>,
     look: Look,
 ) -> Result<(), AllocError>
     requires { length waiting.old.items ≡ length walk.now.met.keys }
-    ensures looked { OnOk result (LooksIn walk.now (get id_eq known.old) (get id_eq known.new) (queues waiting.old.items) (queues waiting.new.items) (places looks.old) (places looks.new) look.place) }
-    ensures front { (more : _) × (known.new.entries ≡ known.old.entries ++ more) }
+    ensures looked { OnOk result (LooksIn walk.now (number_in known.old) (number_in known.new) (queues waiting.old.items) (queues waiting.new.items) (places looks.old) (places looks.new) look.place) }
+    ensures front { Grows known.old known.new }
 {
     let place = look.place;
     let Some(id) = walk.met.get_index(place) else {
         return Ok(());
     };
-    if known.contains_key(id) {
+    if known.has(id) {
         return Ok(());
     }
     let parents = walk.parents_of(id);
@@ -98,13 +98,13 @@ fn look_at(
 
 // The place of a parent that has no number, if there is one: the first at or behind a place, else the first.
 fn first_without(
-    known: &IndexMap<ObjectId, u64>,
+    known: &Numbered,
     parents: &[ObjectId],
     from: usize,
 ) -> Option<usize>
-    ensures found { IfSome result (λ at. (id : Id) × (slice_get parents.now at ≡ Some id) × (get id_eq known.now id ≡ None)) }
+    ensures found { IfSome result (λ at. (id : Id) × (slice_get parents.now at ≡ Some id) × (number_in known.now id ≡ None)) }
     ensures within { IfSome result (λ at. at < length parents.now) }
-    ensures none { IfNone result ((id : Id) → Contains parents.now id → IsSome (get id_eq known.now id)) }
+    ensures none { IfNone result ((id : Id) → Contains parents.now id → IsSome (number_in known.now id)) }
 {
     match first_without_from(known, parents, from) {
         Some(at) => Some(at),
@@ -114,17 +114,17 @@ fn first_without(
 
 // The place of the first parent at or behind a place that has no number.
 fn first_without_from(
-    known: &IndexMap<ObjectId, u64>,
+    known: &Numbered,
     parents: &[ObjectId],
     from: usize,
 ) -> Option<usize>
-    ensures found { IfSome result (λ at. (id : Id) × (slice_get parents.now at ≡ Some id) × (get id_eq known.now id ≡ None)) }
+    ensures found { IfSome result (λ at. (id : Id) × (slice_get parents.now at ≡ Some id) × (number_in known.now id ≡ None)) }
     ensures within { IfSome result (λ at. at < length parents.now) }
-    ensures none { IfNone result ((k : ℕ) (d : Id) → from ≤ k → k < length parents.now → IsSome (get id_eq known.now (get_or parents.now k d))) }
+    ensures none { IfNone result ((k : ℕ) (d : Id) → from ≤ k → k < length parents.now → IsSome (number_in known.now (get_or parents.now k d))) }
 {
     let mut at = from;
     while at < parents.len() {
-        if !known.contains_key(&parents[at]) {
+        if !known.has(&parents[at]) {
             return Some(at);
         }
         at += 1;
@@ -133,13 +133,13 @@ fn first_without_from(
 }
 
 // One more than the greatest number of the parents, 1 where there is none. None where a parent has no number, or the last.
-fn number_over(known: &IndexMap<ObjectId, u64>, parents: &[ObjectId]) -> Option<u64>
-    ensures over { IfSome result (λ n. IsOver (get id_eq known.now) parents.now n) }
-    ensures held { IfNone result (IsHeld (get id_eq known.now) parents.now) }
+fn number_over(known: &Numbered, parents: &[ObjectId]) -> Option<u64>
+    ensures over { IfSome result (λ n. IsOver (number_in known.now) parents.now n) }
+    ensures held { IfNone result (IsHeld (number_in known.now) parents.now) }
 {
     let mut greatest: u64 = 0;
     for parent in parents {
-        let number = *known.get(parent)?;
+        let number = known.get(parent)?;
         if greatest < number {
             greatest = number;
         }

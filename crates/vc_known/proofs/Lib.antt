@@ -1,11 +1,10 @@
 pub mod AddedLemmas
 pub mod CommonLemmas
-pub mod KindLemmas
 pub mod KnownLemmas
 pub mod LayerLemmas
-pub mod PlaceLemmas
+pub mod LayingLemmas
 pub mod ReachLemmas
 pub mod ReachOfLemmas
-pub mod ShowsLemmas
 pub mod StaysLemmas
 pub mod StoredLemmas
+pub mod WalkedLemmas

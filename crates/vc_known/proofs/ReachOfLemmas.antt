@@ -2,23 +2,21 @@
 use Rattle.std.proofs.Common.{◌≡◌, ◌↔◌, ◌||◌, ◌⊎◌, ◌++◌, ◌∷◌, [], inl, inr, ⊎_elim, ℕ, Bool, true, false, List, IsSome, Contains, length, sym, ap, subst, ◌∙◌, refl, arith}
 use Rattle.std.specs.Prelude.{IsTrue}
 use Rattle.std.specs.List.{list_any}
-use Rattle.std.specs.Option.{option_map}
 use Rattle.std.proofs.lemmas.Map.Views.{Contains-from_any, list_any-from_Contains}
 use Rattle.std.proofs.lemmas.Slice.Eq.{slice_eq-Decides}
 use Rattle.std.specs.Cmp.Lexicographic.{pointwise}
-use Rattle.vc_history.proofs.StoredLemmas.{Agrees-same}
+use Rattle.vc_history.specs.Right.{AgreesWith}
 use Rattle.vc_object.proofs.IdLemmas.{id_eq-same, id_eq_equiv}
 use Rattle.vc_object.specs.ObjectId.{id_eq}
-use Rattle.vc_object.specs.ObjectMap.{ObjectMap, links_in, parents_in}
+use Rattle.vc_object.specs.ObjectMap.{ObjectMap, links_in}
 use Rattle.vc_object.specs.declared.id.ObjectId.{ObjectId}
 use Rattle.vc_object_map.specs.Graph.{IsClosedUnder, ReachedFrom}
 use Rattle.vc_known.proofs.AddedLemmas.{closed_above, met-both}
 use Rattle.vc_known.proofs.LayerLemmas.{IsWithin-from_test, ReachedFrom-within, last_roots-now, length_one_more, not_within, test-from_IsWithin, within_cases}
-use Rattle.vc_known.specs.Known.{Agrees, KnowsSame, ReachesLast, count_in, generation_in, layer_in, moments_in}
+use Rattle.vc_known.specs.Known.{Agrees, KnowsSame, ReachesLast, count_in, layer_in, moments_in}
 use Rattle.vc_known.specs.Layers.{AreLayers, IsMetAbove, IsWithin, ReachesLayers, is_below, last_roots}
 use Rattle.vc_known.specs.Reach.{IsReachOf, has_in}
 use Rattle.vc_known.specs.declared.known.Known.{Known}
-use Rattle.vc_known.specs.declared.known.Place.{Place}
 use Rattle.vc_known.specs.declared.reach.Reach.{Reach}
 
 or_cases : (a b : Bool) → (a || b) ≡ true → (a ≡ true) ⊎ (b ≡ true)
@@ -107,23 +105,18 @@ last_roots-same moments last roots count equal is all test told =
 
 -- ---- what agrees stays so if the same is known
 module _ (objects : ObjectMap) (old new : Known) (same : KnowsSame old new) (agrees : Agrees objects old) where
-  layer_same : (id : ObjectId) → layer_in new id ≡ layer_in old id
-  layer_same id = ap (option_map (λ (place : Place). place.layer)) (same.places id)
-
   layers_same : AreLayers (links_in objects) (moments_in old) (layer_in new)
   layers_same = record {
     exactly = λ count moment x.
         let both = agrees.layers.exactly count moment x in (
-          λ h. both.0 (record { layer = h.layer; has = sym (layer_same x) ∙ h.has; first = h.first }),
-          λ r. let h = both.1 r in record { layer = h.layer; has = layer_same x ∙ h.has; first = h.first },
+          λ h. both.0 (record { layer = h.layer; has = sym (same.layers x) ∙ h.has; first = h.first }),
+          λ r. let h = both.1 r in record { layer = h.layer; has = same.layers x ∙ h.has; first = h.first },
         );
-    there = λ x layer is. agrees.layers.there x layer (sym (layer_same x) ∙ is);
+    there = λ x layer is. agrees.layers.there x layer (sym (same.layers x) ∙ is);
   }
 
   pub Agrees-known_same : Agrees objects new
   Agrees-known_same = record {
     layers = subst (λ lists. AreLayers (links_in objects) lists (layer_in new)) (sym same.moments) layers_same;
-    kinds = λ id kind is. agrees.kinds id kind (sym (ap (option_map (λ (place : Place). place.kind)) (same.places id)) ∙ is);
-    generations = Agrees-same (parents_in objects) (generation_in old) (generation_in new) same.generations agrees.generations;
-    numbered = λ id some. subst (λ o. IsSome o) (sym (layer_same id)) (agrees.numbered id (subst (λ o. IsSome o) (same.generations id) some));
+    generations = subst (AgreesWith objects) (sym same.generations) agrees.generations;
   }

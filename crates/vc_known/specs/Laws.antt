@@ -70,11 +70,6 @@ ReachedIsKnownOrAbove = (objects : ObjectMap) (known : Known) (roots : List Obje
 abbrev pub KnownStays : Type 0
 KnownStays = (objects more : ObjectMap) (known : Known) → AreAllIn more objects → Agrees objects known → Agrees more known
 
--- and where objects vanish that the last roots do not reach
-abbrev pub KnownOutlivesPrune : Type 0
-KnownOutlivesPrune = (objects fewer : ObjectMap) (known : Known) → Agrees objects known
-    → ((id : ObjectId) → ReachedFrom (links_in objects) (last_roots (moments_in known) (count_in known)) id → fewer id ≡ objects id) → Agrees fewer known
-
 -- ---- roots that reach those of the last moment
 -- ones of which these are ancestors, or which they are: refs that only moved to descendants
 abbrev pub DescendantsReachLast : Type 0

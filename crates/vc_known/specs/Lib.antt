@@ -1,7 +1,6 @@
 pub mod Common
 pub mod Known
 pub mod Laws
+pub mod Laying
 pub mod Layers
 pub mod Reach
-pub mod Seen
-pub mod Walked

@@ -1,5 +1,5 @@
 //! Laws of the definitions: functions with no work to do, whose contracts are the laws.
-ghost use Rattle.vc_known.specs.Laws.{AddedLayerIsRight, AddedReachLast, CommonMomentIsReached, DescendantsReachLast, DifferenceIsAbove, GrownReachLast, KnownIsReached, KnownOutlivesPrune, KnownStays, LaterReachLast, LayerIsFirst, LayersGrow, LayersStay, LayersStayWhereLinksGrow, PrunedReachLast, ReachedIsKnownOrAbove, WalkDownToNoLayer, WalkMeetsWhatIsAbove};
+ghost use Rattle.vc_known.specs.Laws.{AddedLayerIsRight, AddedReachLast, CommonMomentIsReached, DescendantsReachLast, DifferenceIsAbove, GrownReachLast, KnownIsReached, KnownStays, LaterReachLast, LayerIsFirst, LayersGrow, LayersStay, LayersStayWhereLinksGrow, PrunedReachLast, ReachedIsKnownOrAbove, WalkDownToNoLayer, WalkMeetsWhatIsAbove};
 
 /// What the roots of a moment reach, those of each later one reach too.
 pub fn layers_grow()
@@ -44,10 +44,9 @@ pub fn what_is_known_is_reached()
     ensures later { ReachedIsKnownOrAbove }
 {}
 
-/// What is known stays right where objects are added, and where objects vanish that the last roots do not reach.
+/// What is known stays right if objects are added.
 pub fn what_is_known_stays()
-    ensures grown { KnownStays }
-    ensures kept { KnownOutlivesPrune }
+    ensures { KnownStays }
 {}
 
 /// Which roots reach those of the last moment, so that the next layer may be added for them: those of which these are ancestors, as where

@@ -3,10 +3,8 @@
 
 mod known;
 mod laws;
-mod layer;
+mod laying;
 mod reach;
-mod seen;
-mod stored;
 mod walk;
 
 pub use known::Known;
@@ -16,4 +14,3 @@ pub use laws::{
     what_is_known_is_reached, what_is_known_stays,
 };
 pub use reach::Reach;
-pub use seen::{Kinds, Seen};

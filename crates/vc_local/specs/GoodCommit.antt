@@ -1,9 +1,12 @@
 -- A commit that a branch or HEAD may name, over the objects that files spell.
+use Rattle.std.specs.Prelude.{◌≡◌, ℕ, List, Some, false}
 use Rattle.vc_files.specs.FileMap.{FileMap}
 use Rattle.vc_object_map.specs.Graph.{IsClosed}
 use Rattle.vc_object.specs.ObjectMap.{links_in, parents_in}
 use Rattle.vc_object.specs.declared.id.ObjectId.{ObjectId}
 use Rattle.vc_push_rules.specs.Known.{AreRefsWhole}
+use Rattle.vc_push_rules.specs.Verdict.{is_tag}
+use Rattle.vc_refs.specs.Refs.{refs}
 use Rattle.vc_object_map.specs.Store.{objects, IsDamaged}
 use Rattle.vc_object_map.specs.declared.faults.StoreFault.{StoreFault}
 use Rattle.vc_object_map.specs.declared.faults.StoreFault.TheVariants as store
@@ -45,3 +48,9 @@ BlamesCommit content = BlamesCommitBeyond (AreRefsWhole content) content
 -- a commit that a branch or HEAD may name, or another commit as a parent, where all is there that refs reach
 abbrev pub IsGoodBeyondRefs : FileMap → ObjectId → Type 0
 IsGoodBeyondRefs content id = AreRefsWhole content → IsComplete content id × IsHistory content id
+
+-- the value of a ref that is no tag
+pub record IsTip (content : FileMap) (id : ObjectId) : Type 0 where
+  pub name : List ℕ
+  pub no_tag : is_tag name ≡ false
+  pub value : refs content name ≡ Some id

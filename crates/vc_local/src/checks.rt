@@ -9,6 +9,7 @@ ghost use Rattle.vc_quarantine.specs.Known.{AreWhole};
 ghost use Rattle.vc_object_map.specs.Store.{objects};
 
 use crate::NodeFault;
+use crate::near_head::is_near_head;
 use std::alloc::Global;
 use vc_files::Files;
 use vc_graph::is_complete_beyond;
@@ -19,7 +20,7 @@ use vc_store::Store;
 
 /// Refuses an id of which not all is there that it reaches (40), and then one that is no commit, or that has an object
 /// of another kind along its parent links (41). What the values of refs reach is taken to be there, as it is in a sound
-/// repository: the walk ends at them.
+/// repository: the walk ends at them, and a commit that is found near HEAD is not walked from at all.
 pub fn refuse_bad_commit<F: Files>(
     alloc: Global,
     files: &mut F,
@@ -32,6 +33,9 @@ pub fn refuse_bad_commit<F: Files>(
     ensures file { F.honest → IfErr result (TellsRead (IsReached (F.content files.old) id.now) NoneRead) }
     ensures wear { Wears F.failed F.can_fail F.left files.old files.new (TellsDevice result) }
 {
+    if is_near_head(alloc, files, id)? {
+        return Ok(());
+    }
     let mut known = Known::by_good_refs(files, alloc)?;
     refuse_beyond(alloc, files, &mut known, id)?;
     Ok(())

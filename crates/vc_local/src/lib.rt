@@ -10,6 +10,7 @@ mod committing;
 mod fault;
 mod index_file;
 mod local;
+mod near_head;
 mod opened;
 mod opening;
 mod staging;

@@ -1,7 +1,5 @@
-use Rattle.std.proofs.Common.{◌≡◌, ◌++◌, ◌-◌, ◌^◌, List, ℕ}
-use Rattle.indexmap.specs.IndexMap.{get}
-use Rattle.vc_object.specs.ObjectId.{id_eq}
-use Rattle.vc_object.specs.declared.id.ObjectId.{ObjectId as Id}
+use Rattle.std.proofs.Common.{◌-◌, ◌^◌}
+use Rattle.vc_table.specs.Numbered.{Grows, number_in}
 use Rattle.vc_history.proofs.NumberingLemmas.{Goes}
 use Rattle.vc_history.specs.Walk.{read_by}
 use Rattle.vc_history.specs.Numbering.{places, queues}
@@ -9,8 +7,8 @@ use Rattle.vc_history.proofs.numbering.number_history.Given as goal
 
 abbrev pub invariant-loop-next : goal.invariant-loop-next
 invariant-loop-next l = record {
-  goes : Goes l.walk.met.keys (read_by l.walk) (get id_eq l.initial.known) (get id_eq l.known) (queues l.waiting.items) (places l.looks) l.next;
-  front : (more : List (Id × ℕ)) × (l.known.entries ≡ l.initial.known.entries ++ more);
+  goes : Goes l.walk.met.keys (read_by l.walk) (number_in l.initial.known) (number_in l.known) (queues l.waiting.items) (places l.looks) l.next;
+  front : Grows l.initial.known l.known;
 }
 
 abbrev pub decreases-loop-next : goal.decreases-loop-next

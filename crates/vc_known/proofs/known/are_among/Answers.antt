@@ -6,7 +6,7 @@ use Rattle.std.specs.List.{list_any}
 use Rattle.vc_object.proofs.IdLemmas.{id_eq-same, id_eq_equiv}
 use Rattle.vc_object.specs.ObjectId.{id_eq}
 use Rattle.vc_object.specs.declared.id.ObjectId.{ObjectId}
-use Rattle.vc_known.proofs.PlaceLemmas.{all_next}
+use Rattle.vc_known.proofs.LayingLemmas.{all_next}
 use Rattle.vc_known.proofs.known.are_among.Goals as goal
 
 pub loop-root-preserved : goal.loop-root-preserved

@@ -1,6 +1,5 @@
 use Rattle.std.proofs.Common.{◌∷◌, [], rules, IsSome}
-use Rattle.indexmap.specs.IndexMap.{get}
-use Rattle.vc_object.specs.ObjectId.{id_eq}
+use Rattle.vc_table.specs.Numbered.{number_in}
 use Rattle.vc_object.specs.ObjectMap.{parents_in}
 use Rattle.vc_object_map.proofs.WalkLemmas.{ReachedFrom-one}
 use Rattle.vc_history.specs.Numbering.{numbers}
@@ -9,29 +8,29 @@ use Rattle.vc_history.proofs.GatheredLemmas.{all_there}
 use Rattle.vc_history.proofs.LearntLemmas.{Agrees-now, closed_below, learnt, learnt_before}
 use Rattle.vc_history.proofs.generations.Generations.learn.Goals as goal
 
-pub returns-then-contains_key-clause-learnt : goal.returns-then-contains_key-clause-learnt
-returns-then-contains_key-clause-learnt g c honest agrees =
+pub returns-then-has-clause-learnt : goal.returns-then-has-clause-learnt
+returns-then-has-clause-learnt g c honest agrees =
     let parents = parents_in (g.C.Objects.objects (g.C.Objects.state_of c.args.commits.now)) in
-    let some : IsSome (get id_eq c.args.self.now.numbers c.args.root.now) = search rules in
-    learnt_before parents (get id_eq c.args.self.now.numbers) c.args.root.now agrees some
+    let some : IsSome (number_in c.args.self.now.numbers c.args.root.now) = search rules in
+    learnt_before parents (number_in c.args.self.now.numbers) c.args.root.now agrees some
 
-pub returns-then-contains_key-clause-closed : goal.returns-then-contains_key-clause-closed
-returns-then-contains_key-clause-closed g c honest agrees =
+pub returns-then-has-clause-closed : goal.returns-then-has-clause-closed
+returns-then-has-clause-closed g c honest agrees =
     let parents = parents_in (g.C.Objects.objects (g.C.Objects.state_of c.args.commits.now)) in
-    let some : IsSome (get id_eq c.args.self.now.numbers c.args.root.now) = search rules in
-    closed_below parents (get id_eq c.args.self.now.numbers) c.args.root.now agrees some
+    let some : IsSome (number_in c.args.self.now.numbers c.args.root.now) = search rules in
+    closed_below parents (number_in c.args.self.now.numbers) c.args.root.now agrees some
 
 pub returns-in-Ok-clause-agrees : goal.returns-in-Ok-clause-agrees
 returns-in-Ok-clause-agrees g c honest agrees =
     let objects = g.C.Objects.objects (g.C.Objects.state_of c.args.commits.now) in
     Agrees-now objects (numbers c.args.self.now) c.args.root.now c.in_ok-walk.walk.met.keys (read_by c.in_ok-walk.walk) (c.in_ok-walk.ensures.gathered honest) agrees
-    (get id_eq c.number_history.new.known) c.in-Ok.ensures.numbered
+    (number_in c.number_history.new.known) c.in-Ok.ensures.numbered
 
 pub returns-in-Ok-clause-learnt : goal.returns-in-Ok-clause-learnt
 returns-in-Ok-clause-learnt g c honest agrees =
     let objects = g.C.Objects.objects (g.C.Objects.state_of c.args.commits.now) in
     learnt objects (numbers c.args.self.now) c.args.root.now c.in_ok-walk.walk.met.keys (read_by c.in_ok-walk.walk) (c.in_ok-walk.ensures.gathered honest) agrees
-    (get id_eq c.number_history.new.known) c.in-Ok.ensures.numbered
+    (number_in c.number_history.new.known) c.in-Ok.ensures.numbered
 
 pub returns-in-Ok-clause-closed : goal.returns-in-Ok-clause-closed
 returns-in-Ok-clause-closed g c honest agrees =

@@ -14,7 +14,7 @@ returns-then-eq-clause-last g c =
 
 pub returns-then-eq-clause-closed : goal.returns-then-eq-clause-closed
 returns-then-eq-clause-closed g c honest agrees =
-    let objects = g.K.Objects.objects (g.K.Objects.state_of c.args.objects.now) in
+    let objects = g.C.Objects.objects (g.C.Objects.state_of c.args.objects.now) in
     let known = c.args.self.now in
     let count : c.len-count.result ≡ count_in known = omega (arith, c.len-count.ensures, length-map known.moments.items (λ roots. roots.items)) in
     closed_last objects known c.args.roots.now agrees
@@ -22,12 +22,12 @@ returns-then-eq-clause-closed g c honest agrees =
 
 pub returns-in_err-add_layer-clause-agrees : goal.returns-in_err-add_layer-clause-agrees
 returns-in_err-add_layer-clause-agrees g c honest agrees =
-    let objects = g.K.Objects.objects (g.K.Objects.state_of c.args.objects.now) in
+    let objects = g.C.Objects.objects (g.C.Objects.state_of c.args.objects.now) in
     Agrees-known_same objects c.args.self.now c.add_layer.new.self c.in_err-add_layer.ensures.err agrees
 
 pub returns-then-branch-count-clause-agrees : goal.returns-then-branch-count-clause-agrees
 returns-then-branch-count-clause-agrees g c honest agrees =
-    let objects = g.K.Objects.objects (g.K.Objects.state_of c.args.objects.now) in
+    let objects = g.C.Objects.objects (g.C.Objects.state_of c.args.objects.now) in
     let known = c.args.self.now in
     let links = links_in objects in
     let roots = c.args.roots.now in

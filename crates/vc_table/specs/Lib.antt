@@ -1,0 +1,5 @@
+pub mod Draft
+pub mod Laws
+pub mod Merging
+pub mod Numbered
+pub mod Table
